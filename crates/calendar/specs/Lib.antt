@@ -1,0 +1,3 @@
+pub mod Calendar
+pub mod Cases
+pub mod Contract
