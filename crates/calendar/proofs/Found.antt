@@ -7,7 +7,7 @@ use native.Mathlib.Omega.{arith}
 use lib.ListN.{getD}
 use Rattle.calendar.specs.declared.WallTime.{WallTime}
 use Rattle.calendar.specs.Calendar.{monthsOf, years, total, before, spanOf, daysOf, dateOf, lastSecond}
-use Rattle.calendar.specs.Contract.{Valid}
+use Rattle.calendar.proofs.Validity.{Valid}
 use Rattle.calendar.proofs.Spans.{before-within, spanOf-at, spanOf-lies}
 use Rattle.calendar.proofs.Years.{years-at, all-days, all-years, twelve}
 

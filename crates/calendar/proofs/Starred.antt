@@ -2,8 +2,8 @@
 use mathlib.Core.List.{map}
 use mathlib.Core.Path.{_≡_, refl}
 use Rattle.calendar.specs.Calendar.{monthsOf, years, valid, secondsOf, instantOf}
-use Rattle.calendar.specs.Cases.{cases, wallTime, instant}
+use Rattle.calendar.specs.Cases.{cases}
 
-pub starred : map instantOf (map wallTime cases) ≡ map instant cases
+pub starred : map (λ c. instantOf (c .0)) cases ≡ map (λ c. c .1) cases
 unfolding monthsOf years valid secondsOf
 starred = refl

@@ -2,18 +2,29 @@
 use mathlib.Core.Bool.{Bool, true, false}
 use mathlib.Core.List.{List, [], _∷_}
 use mathlib.Core.Path.{_≡_, refl}
-use Prim.Native.Nat.{ℕ, zero, suc}
+use Prim.Native.Nat.{_≤_, ℕ, zero, suc}
 use lib.ListN.{getD}
 use borrow.Author.Tests.{leb-true, le-leb}
 use Rattle.calendar.specs.declared.WallTime.{WallTime}
-use Rattle.calendar.specs.Calendar.{allOf, tests, valid}
-use Rattle.calendar.specs.Contract.{Valid}
+use Rattle.calendar.specs.Calendar.{monthLength, allOf, tests, valid}
 
 pub all-at : (bs : List Bool) → allOf bs ≡ true → (k : ℕ) → getD bs k true ≡ true
 all-at [] e k = refl
 all-at (true ∷ bs) e zero = refl
 all-at (true ∷ bs) e (suc k) = all-at bs e k
 all-at (false ∷ bs) e k = cc
+
+-- a wall time is valid: the tests of `valid`, as facts
+pub record Valid (w : WallTime) : Type 0 where
+  pub year-from : 1988 ≤ w .year
+  pub year-to : w .year ≤ 2099
+  pub month-from : 1 ≤ w .month
+  pub month-to : w .month ≤ 12
+  pub day-from : 1 ≤ w .day
+  pub day-to : w .day ≤ monthLength (w .year) (w .month)
+  pub hour-to : w .hour ≤ 23
+  pub minute-to : w .minute ≤ 59
+  pub second-to : w .second ≤ 59
 
 pub facts-valid : (w : WallTime) → Valid w → valid w ≡ true
 unfolding valid

@@ -1,5 +1,5 @@
 -- The civil calendar of document 01, section Dates, sentence by sentence, but that the months' rows stand before the test that asks for them.
--- This file is what a reader must believe of dates; Cases.antt has document 01's worked ones, and Contract.antt only what proofs pass on.
+-- This file is what a reader must believe of dates; Cases.antt has document 01's worked ones.
 -- Assumes nothing.
 use mathlib.Core.Bool.{Bool, true, cond, _&&_}
 use mathlib.Core.List.{List, [], _∷_}

@@ -1,9 +1,9 @@
 // The civil calendar from 1988 to 2099: which wall times are valid, and the seconds from 1988-01-01 00:00:00 to and from them.
 ghost use mathlib.Core.Path.{_≡_};
-ghost use Prim.Native.Nat.{_<_, _≤_};
+ghost use mathlib.Core.Bool.{true};
+ghost use Prim.Native.Nat.{_+_, _<_, _≤_};
 ghost use lib.ListN.{getD};
 ghost use Rattle.calendar.specs.Calendar.{leapFlag, monthsOf, valid, total, before, years, daysOf, secondsOf, lastSecond, dateOf, instantOf, dateAnswer};
-ghost use Rattle.calendar.specs.Contract.{Valid, InMonth};
 
 // The ticks of a wall time are ignored everywhere; `from_seconds` gives zero.
 pub struct WallTime {
@@ -143,7 +143,7 @@ fn days_before_month(year: u32, month: u32) -> u32
 
 // The days from 1988-01-01 to a valid wall time's day.
 fn day_number(w: WallTime) -> u32
-    requires { ⌜ Valid w ⌝ }
+    requires { ⌜ valid w ≡ true ⌝ }
     ensures { λ r. ⌜ r ≡ daysOf w ⌝ }
 {
     let year_start = days_before_year(w.year - FIRST_YEAR);
@@ -153,7 +153,7 @@ fn day_number(w: WallTime) -> u32
 
 // The seconds from 1988-01-01 00:00:00 to a valid wall time.
 fn seconds_if_valid(w: WallTime) -> u32
-    requires { ⌜ Valid w ⌝ }
+    requires { ⌜ valid w ≡ true ⌝ }
     ensures { λ r. ⌜ r ≡ secondsOf w ⌝ }
 {
     let midnight = day_number(w) * DAY;
@@ -180,7 +180,7 @@ struct MonthDay {
 // The month and the day in it of a day of a year, all counted from 0. Each turn passes a month, so there are at most twelve.
 fn month_day(year: u32, day: u32) -> MonthDay
     requires { ⌜ day < total (monthsOf year) ⌝ }
-    ensures { λ r. ⌜ InMonth (monthsOf year) day (r .month) (r .day) ⌝ }
+    ensures { λ r. ⌜ (r .month < 12) × (r .day < getD (monthsOf year) (r .month) 0) × (day ≡ before (monthsOf year) (r .month) + r .day) ⌝ }
 {
     let mut month = 0;
     let mut left = day;

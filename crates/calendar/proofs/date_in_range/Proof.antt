@@ -46,7 +46,7 @@ returns c =
     let day = s % 126230400 / 86400 in
     let f = in-four (s / 126230400) day (omega arith) (omega arith) in
     let m = c .before .before .month-day .ensures in
-    sym (date-is s (s / 126230400 * 4 + day * 4 / 1461) _ _ (f .year) (m .day) (omega arith))
+    sym (date-is s (s / 126230400 * 4 + day * 4 / 1461) _ _ (f .year) (m .1) (omega arith))
 
 pub date-in-range-spec : {M : Type 1} → statement M
 date-in-range-spec =

@@ -2,6 +2,7 @@
 use borrow.Author.Needs.{needs}
 use native.Mathlib.Omega.{arith}
 use Rattle.calendar.specs.Calendar.{secondsOf}
+use Rattle.calendar.proofs.Validity.{valid-facts}
 use Rattle.calendar.proofs.Found.{days-within}
 use Rattle.calendar.proofs.seconds_if_valid.Statement.{statement}
 use Rattle.calendar.proofs.seconds_if_valid.Tie as tie
@@ -10,22 +11,24 @@ day-number-requires : tie.Need-day-number-requires
 day-number-requires c κs = search needs
 
 mul-midnight : tie.Need-mul-midnight
-mul-midnight c = omega (arith, days-within _ (c .before .pre))
+mul-midnight c = let v = valid-facts (c .before .args .w) (c .before .pre) in omega (arith, days-within (c .before .args .w) v)
 
 mul-result : tie.Need-mul-result
-mul-result c = search needs
+mul-result c =
+    let v = valid-facts (c .before .before .args .w) (c .before .before .pre) in omega arith
 
 add-result : tie.Need-add-result
-add-result c = omega (arith, days-within _ (c .before .before .pre))
+add-result c = let v = valid-facts (c .before .before .args .w) (c .before .before .pre) in omega (arith, days-within (c .before .before .args .w) v)
 
 mul-result-2 : tie.Need-mul-result-2
-mul-result-2 c = search needs
+mul-result-2 c =
+    let v = valid-facts (c .before .before .before .args .w) (c .before .before .before .pre) in omega arith
 
 add-result-2 : tie.Need-add-result-2
-add-result-2 c = omega (arith, days-within _ (c .before .before .before .pre))
+add-result-2 c = let v = valid-facts (c .before .before .before .args .w) (c .before .before .before .pre) in omega (arith, days-within (c .before .before .before .args .w) v)
 
 add-result-3 : tie.Need-add-result-3
-add-result-3 c = omega (arith, days-within _ (c .before .before .before .before .pre))
+add-result-3 c = let v = valid-facts (c .before .before .before .before .args .w) (c .before .before .before .before .pre) in omega (arith, days-within (c .before .before .before .before .args .w) v)
 
 returns : tie.Need-returns
 unfolding secondsOf

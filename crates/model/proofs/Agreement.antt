@@ -1,0 +1,135 @@
+-- Every accepted call of the twelve keeps agreement with the events, and lists what is due in it. Assumes nothing.
+use mathlib.Core.Path.{_≡_, refl, sym, ap, ap₂, _∙_, subst}
+use Prim.Native.Nat.{ℕ, _+_}
+use native.Mathlib.Omega.{arith}
+use mathlib.Core.Bool.{Bool, true, false}
+use mathlib.Core.Option.{Option, some}
+use mathlib.Core.List.{List, [], _∷_, _++_, map, reverseAux, map-append, cons≢nil}
+use lib.ListN.{length}
+use lib.Dec.{eqb}
+use borrow.Author.Tests.{eqb-true, lt-leb}
+use Rattle.calendar.specs.Calendar.{secondsOf}
+use Rattle.model.specs.Lists.{keep}
+use Rattle.model.specs.Status.{firstOf}
+use Rattle.model.specs.Calls.{Call, layOut, create, ident, cancel, delete, fireAfter, fireWhen, reset, ticksLeft, tick, setClock, getClock}
+use Rattle.model.specs.Kinds.{Chain, ByTicks, ByDate}
+use Rattle.model.specs.State.{State, free, slotAt, indexOf, Fired, listed}
+use Rattle.model.specs.Directives.{refusals, lowestFree, unused, idled, effect}
+use Rattle.model.specs.History.{afterTicks, atDate, Start, Event, changes, nothing, lastStart, eventOf, isTick, moves, Placed, starts, fires, dueAt, inChain, entry}
+use Rattle.model.proofs.ListLaws.{clash, all, keep-none}
+use Rattle.model.proofs.Order.{order}
+use Rattle.model.proofs.CalendarLaws.{valid-seconds}
+use Rattle.model.proofs.WellFormed.{WellFormed}
+use Rattle.model.proofs.Slots.{memo-idled}
+use Rattle.model.proofs.Searches.{found}
+use Rattle.model.proofs.Refused.{passed}
+use Rattle.model.proofs.HistoryLaws.{dueNow}
+use Rattle.model.proofs.ChainLaws.{chainFrom, presses, not-due, chain-fires}
+use Rattle.model.proofs.Simulation.{beginning, Remembers, Agrees, on-nothing, on-stored, on-lay-out, on-stop, on-start, on-set-clock, set-clock-fires, on-tick, tick-fires}
+
+module _ (s : State) (A h : List Event) (v : Agrees s A h) (f : WellFormed s) (unsound : Bool) where
+  pub agrees-step : (c : Call) → firstOf (refusals unsound s c) ≡ 0 → Agrees (effect s c .state) (A ++ (eventOf h c ∷ [])) (eventOf h c ∷ h)
+  agrees-step (layOut n t) e = on-lay-out s A h v (s .room) n t
+  agrees-step (create name) e =
+      let i = lowestFree s in
+      let p = passed unsound s (create name) e in
+      let low = found (λ x. eqb (x .kind) 0) (s .slots) (p .1) in
+      let blank = f .shape i .blank (omega (arith, eqb-true (slotAt (s .slots) i .kind) 0 (low .passes))) in
+      on-stored s A h v i (unused name) (λ j. record { routine = sym (blank .1) j; userData = sym (blank .2) j }) refl
+  agrees-step (ident name) e = on-nothing s A h v
+  agrees-step (cancel id) e =
+      let p = passed unsound s (cancel id) e in
+      let x = slotAt (s .slots) (indexOf id) in
+      on-stop s A h v id (indexOf id) (p .is) (p .low) (p .high) (idled x) (subst (Remembers h (indexOf id)) (sym (memo-idled x)) (v .memory (indexOf id)))
+  agrees-step (delete id) e =
+      let p = passed unsound s (delete id) e in on-stop s A h v id (indexOf id) (p .is) (p .low) (p .high) free (λ z. clash (sym z))
+  agrees-step (fireAfter id n r u) e =
+      let p = passed unsound s (fireAfter id n r u) e in
+      let q = p .names-one in
+      on-start s A h v id (indexOf id) (q .is) (q .low) (q .high) ByTicks (afterTicks n) n r u refl (λ b. lt-leb n 0 (p .ticks)) (λ z. (p .ticks, refl))
+  agrees-step (fireWhen id w r u) e =
+      let p = passed unsound s (fireWhen id w r u) e in
+      let q = p .names-one in
+      on-start s A h v id (indexOf id) (q .is) (q .low) (q .high) ByDate (atDate (secondsOf w)) 0 r u refl (λ b. refl) (λ z. clash (sym z))
+  agrees-step (reset id) e =
+      let p = passed unsound s (reset id) e in
+      let i = indexOf id in
+      let x = slotAt (s .slots) i in
+      let m = v .memory i (p .1) in
+      let last : lastStart id h ≡ some (beginning id (afterTicks (x .interval)) (x .routine) (x .userData)) =
+      subst (λ (k : ℕ). lastStart k h ≡ some (beginning k (afterTicks (x .interval)) (x .routine) (x .userData))) (sym (p .0 .is)) (m .1) in
+      subst (λ (o : Option Start). Agrees (effect s (reset id) .state) (A ++ (changes id o ∷ [])) (changes id o ∷ h)) (sym last)
+      (on-start s A h v id i (p .0 .is) (p .0 .low) (p .0 .high) ByTicks (afterTicks (x .interval)) (x .interval) (x .routine) (x .userData) refl
+      (λ b. lt-leb (x .interval) 0 (m .0)) (λ z. (m .0, refl)))
+  agrees-step (ticksLeft id) e = on-nothing s A h v
+  agrees-step (tick list) e = on-tick s A h v f list
+  agrees-step (setClock w list) e = on-set-clock s A h v f (secondsOf w) (valid-seconds w (passed unsound s (setClock w list) e .1)) list
+  agrees-step getClock e = on-nothing s A h v
+
+  -- ---- what is listed
+
+  -- those of a chain that fire in e, in firing order
+  dueIn : Chain → Event → List Placed
+  dueIn k e = order dueAt (keep (inChain k) (keep (fires e) (starts A)))
+
+  empty : (l : List Placed) → map entry l ≡ [] → l ≡ []
+  empty [] z = refl
+  empty (x ∷ xs) z = absurd (cons≢nil z)
+
+  pub none-due : (k : Chain) (e : Event) → moves e ≡ false → isTick e ≡ false → order dueAt (keep (inChain k) (keep (fires e) (starts A))) ≡ []
+  none-due k e m t =
+      empty (order dueAt (keep (inChain k) (keep (fires e) (starts A))))
+      (chain-fires k A e
+      ∙ ap (map (λ w. w .shows)) (keep-none (dueNow k e (reverseAux A [])) (chainFrom k A)
+      (all (λ w. dueNow k e (reverseAux A []) w ≡ false) (λ w. not-due k e (calm k) (reverseAux A []) w) (chainFrom k A))))
+    where
+      calm : (k : Chain) → presses k e ≡ false
+      calm ByTicks = t
+      calm ByDate = m
+
+  -- the listed ones are those due, interval timers first
+  both-due : (e : Event) (fired : List Fired) → fired ≡ map (λ w. w .shows) (keep (dueNow ByTicks e (reverseAux A [])) (chainFrom ByTicks A))
+      ++ map (λ w. w .shows) (keep (dueNow ByDate e (reverseAux A [])) (chainFrom ByDate A)) → fired ≡ map entry (dueIn ByTicks e ++ dueIn ByDate e)
+  unfolding dueIn
+  both-due e fired z =
+      z ∙ ap₂ (λ (a b : List Fired). a ++ b) (sym (chain-fires ByTicks A e)) (sym (chain-fires ByDate A e))
+      ∙ sym (map-append entry (dueIn ByTicks e) (dueIn ByDate e))
+
+  pub lists-due : (c : Call) → firstOf (refusals unsound s c) ≡ 0 → map (listed (s .slots)) (effect s c .fired)
+      ≡ map entry (order dueAt (keep (inChain ByTicks) (keep (fires (eventOf h c)) (starts A))) ++ order dueAt (keep (inChain ByDate) (keep (fires (eventOf h c)) (starts A))))
+  unfolding dueIn
+  lists-due c e = go c e
+    where
+      quiet : (e : Event) → moves e ≡ false → isTick e ≡ false → [] ≡ map entry (dueIn ByTicks e ++ dueIn ByDate e)
+      quiet e m t = sym (ap₂ (λ (a b : List Placed). map entry (a ++ b)) (none-due ByTicks e m t) (none-due ByDate e m t))
+
+      go : (c : Call) → firstOf (refusals unsound s c) ≡ 0 → map (listed (s .slots)) (effect s c .fired) ≡ map entry (dueIn ByTicks (eventOf h c) ++ dueIn ByDate (eventOf h c))
+      go (layOut n t) e = quiet (eventOf h (layOut n t)) refl refl
+      go (create name) e = quiet nothing refl refl
+      go (ident name) e = quiet nothing refl refl
+      go (cancel id) e = quiet (eventOf h (cancel id)) refl refl
+      go (delete id) e = quiet (eventOf h (delete id)) refl refl
+      go (fireAfter id n r u) e = quiet (eventOf h (fireAfter id n r u)) refl refl
+      go (fireWhen id w r u) e = quiet (eventOf h (fireWhen id w r u)) refl refl
+      go (reset id) e = quiet (eventOf h (reset id)) refl refl
+      go (ticksLeft id) e = quiet nothing refl refl
+      go (tick list) e = both-due (eventOf h (tick list)) (map (listed (s .slots)) (effect s (tick list) .fired)) (tick-fires s A h v f list)
+      go (setClock w list) e =
+          both-due (eventOf h (setClock w list)) (map (listed (s .slots)) (effect s (setClock w list) .fired))
+          (set-clock-fires s A h v f (secondsOf w) (valid-seconds w (passed unsound s (setClock w list) e .1)) list)
+      go getClock e = quiet nothing refl refl
+
+-- a tick and a set clock answer the number of those that fire
+pub counts : (s : State) (h : List Event) (c : Call) → moves (eventOf h c) ≡ true → effect s c .answer ≡ length (effect s c .fired) ∷ []
+counts s h (layOut n t) e = clash (sym e)
+counts s h (create name) e = clash (sym e)
+counts s h (ident name) e = clash (sym e)
+counts s h (cancel id) e = clash (sym e)
+counts s h (delete id) e = clash (sym e)
+counts s h (fireAfter id n r u) e = clash (sym e)
+counts s h (fireWhen id w r u) e = clash (sym e)
+counts s h (reset id) e = clash (sym e)
+counts s h (ticksLeft id) e = clash (sym e)
+counts s h (tick list) e = refl
+counts s h (setClock w list) e = refl
+counts s h getClock e = clash (sym e)

@@ -1,0 +1,189 @@
+-- Demand 3, for every slice, every accepted lay out on it, and every list of calls. By induction on the list: the table stays sound, and
+-- the state that it holds agrees with the events of the accepted calls. Assumes nothing.
+use mathlib.Core.Path.{_≡_, refl, sym, ap, ap₂, _∙_, subst}
+use Prim.Native.Nat.{ℕ, _+_}
+use native.Mathlib.Omega.{arith}
+use mathlib.Core.Bool.{Bool, true, false, not}
+use mathlib.Core.List.{List, [], _∷_, _++_, map, reverse, reverseAux, append-assoc, append-nil}
+use lib.ListN.{length, length-map}
+use lib.Dec.{eqb}
+use borrow.Author.Tests.{eqb-true, eqb-false}
+use Rattle.model.specs.Lists.{keep}
+use Rattle.model.specs.Status.{firstOf}
+use Rattle.model.specs.Calls.{Call, layOut, create, ident, cancel, delete, fireAfter, fireWhen, reset, ticksLeft, tick, setClock, getClock}
+use Rattle.model.specs.Kinds.{Chain, ByTicks, ByDate}
+use Rattle.model.specs.State.{State, listed}
+use Rattle.model.specs.Directives.{refusals, laidOut, effect}
+use Rattle.model.specs.Words.{first, over, word, field, along, links, read}
+use Rattle.model.specs.Sound.{sound}
+use Rattle.model.specs.Outcome.{Outcome, statusOn, refused, written, outcome}
+use Rattle.model.specs.History.{Event, laidOutFor, changes, oneTick, clockSetTo, nothing, eventOf, eventsFrom, moves, isTick, starts, waits, fires, inChain, dueAt, entry}
+use Rattle.model.specs.Demand.{after, acceptedIn, shown, Standing, Answers, laid, eventsAfter, Demand3}
+use Rattle.model.proofs.ListLaws.{cases, clash}
+use Rattle.model.proofs.Order.{order, order-in-order}
+use Rattle.model.proofs.WellFormed.{Holds}
+use Rattle.model.proofs.Chains.{once-both}
+use Rattle.model.proofs.ReadBack.{slots-length, read-back, by-previous, over-holds, written-holds}
+use Rattle.model.proofs.SoundHolds.{sound-holds, sound-well-formed}
+use Rattle.model.proofs.HoldsSound.{well-formed-sound}
+use Rattle.model.proofs.Steps.{chained-laid, length-laid}
+use Rattle.model.proofs.Refused.{passed, isLayOut}
+use Rattle.model.proofs.Kept.{kept, laid-well-formed, effect-room, slots-kept, bound}
+use Rattle.model.proofs.ChainLaws.{chainFrom}
+use Rattle.model.proofs.HistoryLaws.{history}
+use Rattle.model.proofs.Simulation.{Agrees, agrees-laid}
+use Rattle.model.proofs.Agreement.{agrees-step, lists-due, none-due, counts}
+use Rattle.model.proofs.OutcomeLaws.{status-is, outcome-accepted, outcome-refused, outcome-status}
+
+-- the table t is sound and its state agrees with the events es, of which h is the reverse
+pub record Good (t : List ℕ) (es h : List Event) : Type 0 where
+  pub is-sound : sound t ≡ true
+  pub agrees : Agrees (read t) es h
+
+-- ---- a table written by an accepted call
+
+pub laid-holds : (w : List ℕ) (n t : ℕ) → firstOf (refusals (not (sound w)) (read w) (layOut n t)) ≡ 0 → Holds (over (laidOut (length w) n t) w) (laidOut (length w) n t)
+laid-holds w n t e =
+    let p = passed (not (sound w)) (read w) (layOut n t) e in
+    written-holds w (laidOut (length w) n t) (chained-laid (length w) n t (p .slots-high)) (omega (arith, length-laid (length w) n t, p .fits)) refl
+
+-- the table after an accepted call on a sound table holds what the call leaves
+pub effect-holds : (t : List ℕ) → sound t ≡ true → (c : Call) → statusOn t c ≡ 0 → Holds (over (effect (read t) c .state) t) (effect (read t) c .state)
+effect-holds t ok c e = go (isLayOut c) refl
+  where
+    st : firstOf (refusals (not (sound t)) (read t) c) ≡ 0
+    st = sym (status-is t c) ∙ e
+
+    lay : (c : Call) → isLayOut c ≡ true → firstOf (refusals (not (sound t)) (read t) c) ≡ 0 → Holds (over (effect (read t) c .state) t) (effect (read t) c .state)
+    lay (layOut n k) l z = laid-holds t n k z
+    lay (create a) l z = clash (sym l)
+    lay (ident a) l z = clash (sym l)
+    lay (cancel a) l z = clash (sym l)
+    lay (delete a) l z = clash (sym l)
+    lay (fireAfter a b d f) l z = clash (sym l)
+    lay (fireWhen a b d f) l z = clash (sym l)
+    lay (reset a) l z = clash (sym l)
+    lay (ticksLeft a) l z = clash (sym l)
+    lay (tick a) l z = clash (sym l)
+    lay (setClock a b) l z = clash (sym l)
+    lay getClock l z = clash (sym l)
+
+    go : (b : Bool) → isLayOut c ≡ b → Holds (over (effect (read t) c .state) t) (effect (read t) c .state)
+    go true l = lay c l st
+    go false l =
+        let s = effect (read t) c .state in
+        over-holds t (read t) s (sound-holds t ok) (kept (read t) (sound-well-formed t ok) (not (sound t)) c st .chained) (slots-kept (read t) c l) (effect-room (read t) c)
+
+-- ---- one call more
+
+module _ (t : List ℕ) (es h : List Event) (g : Good t es h) (c : Call) where
+  pub good-step : statusOn t c ≡ 0 → Good (over (effect (read t) c .state) t) (es ++ (eventOf h c ∷ [])) (eventOf h c ∷ h)
+  good-step e =
+      let st = sym (status-is t c) ∙ e in
+      let s = effect (read t) c .state in
+      let f = sound-well-formed t (g .is-sound) in
+      let hold = effect-holds t (g .is-sound) c e in
+      record {
+        is-sound = well-formed-sound (over s t) s hold (kept (read t) f (not (sound t)) c st);
+        agrees = subst (λ (x : State). Agrees x (es ++ (eventOf h c ∷ [])) (eventOf h c ∷ h)) (sym (read-back (over s t) s hold))
+            (agrees-step (read t) es h (g .agrees) f (not (sound t)) c st);
+      }
+
+  pub answers-now : Answers t es c (eventOf h c)
+  answers-now = record {
+    lists = λ e.
+        let z : statusOn t c ≡ 0 = sym (outcome-status t c) ∙ e in
+        let st = sym (status-is t c) ∙ z in
+        let f = sound-well-formed t (g .is-sound) in
+        let l = order dueAt (keep (inChain ByTicks) (keep (fires (eventOf h c)) (starts es))) in
+        let m = order dueAt (keep (inChain ByDate) (keep (fires (eventOf h c)) (starts es))) in
+        let o = outcome-accepted t c z in
+        let due = lists-due (read t) es h (g .agrees) f (not (sound t)) c st in
+        let many : length (l ++ m) ≡ length (effect (read t) c .fired) =
+        sym (length-map (l ++ m) entry) ∙ sym (ap length due) ∙ length-map (effect (read t) c .fired) (listed (read t .slots)) in (
+          l,
+          m,
+          order-in-order dueAt (keep (inChain ByTicks) (keep (fires (eventOf h c)) (starts es))),
+          order-in-order dueAt (keep (inChain ByDate) (keep (fires (eventOf h c)) (starts es))),
+          ap (λ (x : Outcome). x .list) o ∙ ap (λ x. written x (effect (read t) c .lent)) due,
+          (λ moving. ap (λ (x : Outcome). x .answer) o ∙ counts (read t) h c moving ∙ ap {B = List ℕ} (λ (n : ℕ). n ∷ []) (sym many)),
+          (λ still. ap₂ (λ a b. a ++ b) (none-due (read t) es h (g .agrees) f (not (sound t)) ByTicks (eventOf h c) still (no-tick (eventOf h c) still))
+              (none-due (read t) es h (g .agrees) f (not (sound t)) ByDate (eventOf h c) still (no-tick (eventOf h c) still))),
+          omega (arith, many, bound (read t) f c, slots-length t),
+        );
+    refuses = λ e. outcome-refused t c (λ z. e (outcome-status t c ∙ z)) ∙ ap (λ (n : ℕ). refused n t c) (sym (outcome-status t c));
+  }
+    where
+      no-tick : (e : Event) → moves e ≡ false → isTick e ≡ false
+      no-tick (laidOutFor k) z = refl
+      no-tick (changes i s) z = refl
+      no-tick oneTick z = clash z
+      no-tick (clockSetTo d) z = refl
+      no-tick nothing z = refl
+
+  pub standing-now : Standing t es
+  standing-now =
+      let hold = sound-holds t (g .is-sound) in
+      record {
+        is-sound = g .is-sound;
+        by-next = λ k. (history k es, order-in-order dueAt (keep (inChain k) (keep waits (starts es))), each k);
+        by-previous = back;
+        once = once-both (read t) (hold .chained);
+      }
+    where
+      each : (k : Chain) → map (shown (read t .slots)) (links k t) ≡ chainFrom k es
+      each ByTicks = g .agrees .chain ByTicks
+      each ByDate = g .agrees .chain ByDate
+
+      back : (k : Chain) → along (field t 7) (word t 0) (first (reverse (links k t)))
+          ≡ map (λ w. w .slot) (reverse (links k t))
+      back ByTicks = by-previous t (read t) (sound-holds t (g .is-sound)) ByTicks
+      back ByDate = by-previous t (read t) (sound-holds t (g .is-sound)) ByDate
+
+-- ---- a list of calls
+
+-- the events of the accepted calls of xs, made after the events h
+abbrev more : List Event → List ℕ → List Call → List Event
+more h t xs = eventsFrom h (acceptedIn t xs)
+
+run : (xs : List Call) (t : List ℕ) (es h : List Event) → Good t es h → Good (after t xs) (es ++ more h t xs) (reverseAux (more h t xs) h)
+run [] t es h g = subst (λ (l : List Event). Good t l h) (sym (append-nil es)) g
+run (c ∷ xs) t es h g =
+    cases (eqb (statusOn t c) 0)
+    (λ e.
+    let z = eqb-true (statusOn t c) 0 e in
+    let o : outcome t c .table ≡ over (effect (read t) c .state) t = ap (λ (x : Outcome). x .table) (outcome-accepted t c z) in
+    let b : eqb (outcome t c .status) 0 ≡ true = ap (λ (n : ℕ). eqb n 0) (outcome-status t c) ∙ e in
+    let u = outcome t c .table in
+    let step : Good u (es ++ (eventOf h c ∷ [])) (eventOf h c ∷ h) = subst (λ (x : List ℕ). Good x (es ++ (eventOf h c ∷ [])) (eventOf h c ∷ h)) (sym o) (good-step t es h g c z) in
+    rw b (subst (λ (l : List Event). Good (after u xs) l (reverseAux (more (eventOf h c ∷ h) u xs) (eventOf h c ∷ h))) (append-assoc es (eventOf h c ∷ []) (more (eventOf h c ∷ h) u xs))
+    (run xs u (es ++ (eventOf h c ∷ [])) (eventOf h c ∷ h) step)))
+    (λ e.
+    let o : outcome t c .table ≡ t = ap (λ (x : Outcome). x .table) (outcome-refused t c (eqb-false (statusOn t c) 0 e)) in
+    let b : eqb (outcome t c .status) 0 ≡ false = ap (λ (n : ℕ). eqb n 0) (outcome-status t c) ∙ e in
+    rw b (run xs (outcome t c .table) es h (subst (λ (x : List ℕ). Good x es h) (sym o) g)))
+
+-- the table that a lay out leaves
+begins : (w : List ℕ) (n t : ℕ) → statusOn w (layOut n t) ≡ 0 → Good (laid w n t) (laidOutFor t ∷ []) (laidOutFor t ∷ [])
+begins w n t e =
+    let st = sym (status-is w (layOut n t)) ∙ e in
+    let p = passed (not (sound w)) (read w) (layOut n t) st in
+    let s = laidOut (length w) n t in
+    let hold = laid-holds w n t st in
+    let o : laid w n t ≡ over s w = ap (λ (x : Outcome). x .table) (outcome-accepted w (layOut n t) e) in
+    subst (λ (x : List ℕ). Good x (laidOutFor t ∷ []) (laidOutFor t ∷ [])) (sym o) (record {
+      is-sound = well-formed-sound (over s w) s hold (laid-well-formed (length w) n t (p .slots-low) (p .slots-high) (p .ticks-low) (p .ticks-high));
+      agrees = subst (λ (x : State). Agrees x (laidOutFor t ∷ []) (laidOutFor t ∷ [])) (sym (read-back (over s w) s hold)) (agrees-laid (length w) n t);
+    })
+
+pub demand3 : (w : List ℕ) (n t : ℕ) → outcome w (layOut n t) .status ≡ 0 → (cs : List Call) → Demand3 w n t cs
+demand3 w n t e cs =
+    let t₀ = laid w n t in
+    let h₀ : List Event = laidOutFor t ∷ [] in
+    let z : statusOn w (layOut n t) ≡ 0 = sym (outcome-status w (layOut n t)) ∙ e in
+    let good : (xs : List Call) → Good (after t₀ xs) (eventsAfter w n t xs) (reverse (eventsAfter w n t xs)) =
+    λ xs. run xs t₀ h₀ h₀ (begins w n t z) in
+    record {
+      standing = λ xs ys _. standing-now (after t₀ xs) (eventsAfter w n t xs) (reverse (eventsAfter w n t xs)) (good xs) (layOut n t);
+      answers = λ xs ys c _. answers-now (after t₀ xs) (eventsAfter w n t xs) (reverse (eventsAfter w n t xs)) (good xs) c;
+    }

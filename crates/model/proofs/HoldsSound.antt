@@ -1,0 +1,176 @@
+-- A table that holds a well-formed state is sound: each test is passed, for the words are the state's and the chains are read back.
+-- Assumes nothing.
+use mathlib.Core.Path.{_≡_, refl, sym, ap, _∙_, subst}
+use Prim.Native.Nat.{ℕ, suc, _+_, _*_, _≤_, _<_}
+use native.Mathlib.Omega.{arith}
+use mathlib.Core.Bool.{Bool, true, false, cond, not, _&&_, _||_}
+use mathlib.Core.List.{List, [], _∷_, map}
+use lib.ListN.{length, getD, length-map}
+use lib.Dec.{leb, ltb, eqb}
+use borrow.Author.Tests.{ltb-false, eqb-true, eqb-false, eq-eqb, ne-eqb, le-leb, lt-ltb, not-false}
+use Rattle.model.specs.Lists.{count, every, allUp, All, Sorted}
+use Rattle.model.specs.Kinds.{Chain, ByTicks, ByDate, waitsIn, lastByTicks}
+use Rattle.model.specs.State.{Slot, Link, State, chainOf, slotAt}
+use Rattle.calendar.specs.Calendar.{allOf, lastSecond}
+use Rattle.model.specs.Words.{first, word, field, headWord, along, slotFrom}
+use Rattle.model.specs.Sound.{headerSound, unlinked, unstarted, slotSound, previousSound, chainSound, firstSound, ticksSound, rising, datesSound, sound}
+use Rattle.model.proofs.ListLaws.{cases, and-both, every-true, all-up, all-map, all-zip, all-mapped}
+use Rattle.model.proofs.WellFormed.{Shape, WellFormed, Holds}
+use Rattle.model.proofs.Chains.{InSlots, in-slots, fits}
+use Rattle.model.proofs.Each.{end, _&_, passed}
+use Rattle.model.proofs.Spelling.{headWords, holds-spelled, Loose, Parts, holds-parts, Linked, holds-linked}
+use Rattle.model.proofs.ReadBack.{count-slots, count-is, set-is, links-is, by-next}
+use Rattle.model.proofs.SoundHolds.{headerTests, slotTests, bullets}
+
+or-if : (a b : Bool) → (a ≡ false → b ≡ true) → (a || b) ≡ true
+or-if true b f = refl
+or-if false b f = f refl
+
+-- ---- a slot
+
+slot-sound : (t : List ℕ) (i : ℕ) → Shape (slotFrom t i) → (field t 0 i ≤ 3 → Loose t i) → slotSound t i ≡ true
+unfolding slotSound
+slot-sound t i h loose =
+    let kind = field t 0 i in
+    passed (slotTests t i kind) (
+    le-leb kind 5 (h .kinds)
+    & or-if (not (eqb kind 0)) (eqb (field t 1 i) 0) (λ e. eq-eqb (field t 1 i) 0 (h .nameless (eqb-true kind 0 (not-false (eqb kind 0) e))))
+    & or-if (eqb kind 0) (ltb 0 (field t 1 i)) (λ e. lt-ltb 0 (field t 1 i) (h .named (positive kind (eqb-false kind 0 e))))
+    & or-if (ltb 1 kind) (unstarted t i) (λ e.
+    let b = h .blank (ltb-false 1 kind e) in
+    passed (eqb (field t 2 i) 0 ∷ eqb (field t 4 i) 0 ∷ eqb (field t 5 i) 0 ∷ [])
+    (eq-eqb (field t 2 i) 0 (b .0) & eq-eqb (field t 4 i) 0 (b .1) & eq-eqb (field t 5 i) 0 (b .2) & end))
+    & or-if (ltb kind 2) (ltb 0 (field t 4 i)) (λ e. lt-ltb 0 (field t 4 i) (h .used (ltb-false kind 2 e)))
+    & cases (lastByTicks kind) (λ e. rw e (lt-ltb 0 (field t 2 i) (h .by-ticks e))) (λ e. rw e (eq-eqb (field t 2 i) 0 (h .by-date e)))
+    & or-if (ltb 3 kind) (unlinked t i) (λ e.
+    let z = loose (ltb-false 3 kind e) in
+    passed (eqb (field t 3 i) 0 ∷ eqb (field t 6 i) 0 ∷ eqb (field t 7 i) 0 ∷ [])
+    (eq-eqb (field t 3 i) 0 (z .wait) & eq-eqb (field t 6 i) 0 (z .next) & eq-eqb (field t 7 i) 0 (z .previous) & end))
+    & end)
+  where
+    positive : (n : ℕ) → (n ≡ 0 → ⊥) → 0 < n
+    positive n e = omega arith
+
+-- ---- a chain
+
+linked-previous : (k : Chain) (t : List ℕ) (p b : ℕ) (c : List Link) → Linked k t p b c → previousSound t p (map (λ w. w .slot) c) ≡ true
+linked-previous k t p b [] h = refl
+linked-previous k t p b (w ∷ ws) h =
+    and-both (eqb (field t 7 (w .slot)) p) (previousSound t (w .slot) (map (λ x. x .slot) ws)) (eq-eqb (field t 7 (w .slot)) p (h .0 .previous))
+    (linked-previous k t (w .slot) (w .wait) ws (h .1))
+
+first-passes : (c : List Link) → All (λ w. 1 ≤ w .wait) c → firstSound c ≡ true
+first-passes [] h = refl
+first-passes (w ∷ ws) h = le-leb 1 (w .wait) (h .0)
+
+rises : (b : ℕ) (c : List Link) → All (λ w. b ≤ w .wait) c → Sorted (λ w. w .wait) c → rising b c ≡ true
+rises b [] h s = refl
+rises b (w ∷ ws) h s = and-both (leb b (w .wait)) (rising (w .wait) ws) (le-leb b (w .wait) (h .0)) (rises (w .wait) ws (s .0) (s .1))
+
+-- a slot of a kind that does not wait is in no chain
+idle : (k : Chain) (kind : ℕ) → kind ≤ 3 → waitsIn k kind ≡ false
+idle ByTicks kind p = ne-eqb kind 4 (λ e. omega arith)
+idle ByDate kind p = ne-eqb kind 5 (λ e. omega arith)
+
+module _ (t : List ℕ) (s : State) (h : Holds t s) where
+  parts : Parts t s
+  parts = holds-parts t s h
+
+  heads : (m : ℕ) → m < 10 → word t m ≡ getD (headWords s) m 0
+  heads = holds-spelled t s h .heads
+
+  chain-sound : (k : Chain) → chainSound k t ≡ true
+  unfolding chainSound
+  chain-sound k =
+      let c = chainOf k s in
+      let n = word t 0 in
+      let i = word t (headWord k) in
+      let l = along (field t 6) n i in
+      let more = along (field t 6) (suc n) i in
+      let fit : length c ≤ n = omega (arith, count-is t s h, fits s (h .chained) k) in
+      let is : l ≡ map (λ w. w .slot) c = by-next t s h k n fit in
+      let is′ : more ≡ map (λ w. w .slot) c = by-next t s h k (suc n) (omega arith) in
+      let meets : ℕ → Bool = λ j. eqb (count (λ x. eqb x j) l) (cond (waitsIn k (field t 0 j)) 1 0) in
+      passed (leb (length more) n ∷ every (λ j. leb j n) l ∷ allUp meets 1 n ∷ previousSound t 0 l ∷ []) (
+      le-leb (length more) n (omega (arith, ap length is′, length-map c (λ w. w .slot)))
+      & (ap (every (λ j. leb j n)) is ∙ every-true (λ j. leb j n) (map (λ w. w .slot) c)
+      (all-mapped (λ w. w .slot) (λ j. leb j n ≡ true) c
+      (all-map (λ w p. le-leb (w .slot) n (omega (arith, p .1, count-is t s h))) c (in-slots s (h .chained) k))))
+      & all-up meets 1 n (λ j a b. eq-eqb (count (λ x. eqb x j) l) (cond (waitsIn k (field t 0 j)) 1 0)
+      (ap (count (λ x. eqb x j)) is ∙ count-slots j c ∙ h .chained .meets k j
+      ∙ ap (λ (x : Slot). cond (waitsIn k (x .kind)) 1 0) (sym (parts .slots j a (omega (arith, count-is t s h))))))
+      & (ap (previousSound t 0) is ∙ linked-previous k t 0 0 c (holds-linked t s h k))
+      & end)
+
+  loose : (i : ℕ) → 0 < i → i ≤ length (s .slots) → field t 0 i ≤ 3 → Loose t i
+  loose i a b p = parts .loose i a b (λ k. h .chained .meets k i
+      ∙ ap (λ (x : Slot). cond (waitsIn k (x .kind)) 1 0) (sym (parts .slots i a b)) ∙ rw (idle k (field t 0 i) p))
+
+  module _ (ok : WellFormed s) where
+    header-sound : headerSound t ≡ true
+    unfolding headerSound
+    header-sound =
+        let per : word t 1 ≡ s .clock .perSecond = heads 1 (omega arith) in
+        let set : word t 2 ≡ cond (s .clock .isSet) 1 0 = heads 2 (omega arith) in
+        let second : word t 3 ≡ s .clock .second = heads 3 (omega arith) in
+        let into : word t 4 ≡ s .clock .ticksInto = heads 4 (omega arith) in
+        let dated : word t 6 ≡ first (s .dated) = heads 6 (omega arith) in
+        let count = count-is t s h in
+        passed (headerTests t) (
+        le-leb 1 (word t 0) (omega (arith, ok .some-slot))
+        & le-leb (word t 0) 255 (omega (arith, h .chained .few))
+        & le-leb (10 + 8 * word t 0) (length t) (omega (arith, h .long))
+        & le-leb 1 (word t 1) (omega (arith, ok .per-low))
+        & le-leb (word t 1) 1000 (omega (arith, ok .per-high))
+        & le-leb (word t 2) 1 (omega (arith, bit (s .clock .isSet)))
+        & le-leb (word t 3) lastSecond (omega (arith, ok .second-high))
+        & lt-ltb (word t 4) (word t 1) (omega (arith, ok .into))
+        & eq-eqb (word t 7) 0 (heads 7 (omega arith))
+        & eq-eqb (word t 8) 0 (heads 8 (omega arith))
+        & eq-eqb (word t 9) 0 (heads 9 (omega arith))
+        & or-if (eqb (word t 2) 1) (allOf (eqb (word t 3) 0 ∷ eqb (word t 4) 0 ∷ eqb (word t 6) 0 ∷ [])) (λ e.
+        let z = ok .unset (sym (set-is t s h) ∙ e) in
+        passed (eqb (word t 3) 0 ∷ eqb (word t 4) 0 ∷ eqb (word t 6) 0 ∷ [])
+        (eq-eqb (word t 3) 0 (second ∙ z .0) & eq-eqb (word t 4) 0 (into ∙ z .1) & eq-eqb (word t 6) 0 (dated ∙ ap first (z .2)) & end))
+        & end)
+      where
+        bit : (b : Bool) → cond b 1 0 ≤ 1
+        bit true = omega arith
+        bit false = omega arith
+
+    ticks-sound : ticksSound t ≡ true
+    unfolding ticksSound
+    ticks-sound =
+        let c = s .ticking in
+        let low : Link → Bool = λ w. leb (w .wait) (field t 2 (w .slot)) in
+        ap (λ (l : List Link). firstSound l && every low l) (links-is t s h ByTicks)
+        ∙ and-both (firstSound c) (every low c) (first-passes c (ok .ticks))
+        (every-true low c (all-map (λ w p.
+        let is = ap (λ (x : Slot). x .interval) (parts .slots (w .slot) (p .0 .0) (p .0 .1)) in
+        le-leb (w .wait) (field t 2 (w .slot)) (omega (arith, is, p .1))) c
+        (all-zip (InSlots (length (s .slots))) (λ w. w .wait ≤ slotAt (s .slots) (w .slot) .interval) c
+        (in-slots s (h .chained) ByTicks) (h .chained .bounded))))
+
+    dates-sound : datesSound t ≡ true
+    unfolding datesSound
+    dates-sound =
+        let c = s .dated in
+        let low : Link → Bool = λ w. leb (w .wait) lastSecond in
+        let second : word t 3 ≡ s .clock .second = heads 3 (omega arith) in
+        ap (λ (l : List Link). rising (suc (word t 3)) l && every low l) (links-is t s h ByDate)
+        ∙ and-both (rising (suc (word t 3)) c) (every low c)
+        (rises (suc (word t 3)) c (all-map (λ w p. omega (arith, p .0)) c (ok .dates)) (h .chained .rises ByDate))
+        (every-true low c (all-map (λ w p. le-leb (w .wait) lastSecond (p .1)) c (ok .dates)))
+
+    pub well-formed-sound : sound t ≡ true
+    unfolding sound
+    well-formed-sound = passed (bullets t) (
+        header-sound
+        & all-up (slotSound t) 1 (word t 0) (λ i a b.
+        let n : i ≤ length (s .slots) = omega (arith, count-is t s h) in
+        slot-sound t i (subst Shape (sym (parts .slots i a n)) (ok .shape i)) (loose i a n))
+        & chain-sound ByTicks
+        & chain-sound ByDate
+        & ticks-sound
+        & dates-sound
+        & end)

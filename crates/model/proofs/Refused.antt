@@ -1,0 +1,214 @@
+-- What an accepted call has passed. No rule's number is 0, so the status is 0 only where no rule applies: each test is false, and is read as
+-- a fact. Assumes nothing.
+use mathlib.Core.Path.{_≡_, refl, sym}
+use Prim.Native.Nat.{ℕ, zero, suc, _+_, _*_, _≤_, _<_}
+use native.Mathlib.Omega.{arith}
+use mathlib.Core.Bool.{Bool, true, false, not, _&&_}
+use mathlib.Core.List.{List, [], _∷_}
+use lib.ListN.{length, getD, take}
+use lib.Dec.{leb, ltb, eqb}
+use borrow.Author.Tests.{leb-true, ltb-true, ltb-false, le-leb, lt-ltb, eqb-false, ne-eqb, not-true, not-false}
+use Rattle.calendar.specs.declared.WallTime.{WallTime}
+use Rattle.calendar.specs.Calendar.{allOf, valid, secondsOf}
+use Rattle.model.specs.Lists.{All, every}
+use Rattle.model.specs.Status.{Refusal, firstOf}
+use Rattle.model.specs.Calls.{Call, layOut, create, ident, cancel, delete, fireAfter, fireWhen, reset, ticksLeft, tick, setClock, getClock}
+use Rattle.model.specs.Kinds.{lastByTicks}
+use Rattle.model.specs.State.{State, slotAt, idBase, indexOf, names}
+use Rattle.model.specs.Directives.{refusals, lowestFree, lowestNamed, isShort}
+use Rattle.model.proofs.ListLaws.{cases, clash, both, all-at, all-true}
+
+-- ---- any list of rules
+
+abbrev pub noRule : Refusal
+noRule = record { number = 0; given = false }
+
+-- no rule's number is 0
+abbrev pub numbered : List Refusal → Bool
+numbered rs = every (λ r. not (eqb (r .number) 0)) rs
+
+first-passes : (r : Refusal) (rs : List Refusal) → numbered (r ∷ rs) ≡ true → firstOf (r ∷ rs) ≡ 0 → r .given ≡ false
+first-passes r rs n e =
+    let not-zero = eqb-false (r .number) 0 (not-true (eqb (r .number) 0) (both (not (eqb (r .number) 0)) (numbered rs) n .0)) in
+    cases (r .given) (λ f. absurd (not-zero (rw f at e))) (λ f. f)
+
+-- rule k, counted from 0, does not apply
+pub passes : (rs : List Refusal) → numbered rs ≡ true → firstOf rs ≡ 0 → (k : ℕ) → getD rs k noRule .given ≡ false
+passes [] n e k = refl
+passes (r ∷ rs) n e zero = first-passes r rs n e
+passes (r ∷ rs) n e (suc k) = passes rs (both (not (eqb (r .number) 0)) (numbered rs) n .1) (rw (first-passes r rs n e) at e) k
+
+pub none-given : (rs : List Refusal) → All (λ r. r .given ≡ false) rs → firstOf rs ≡ 0
+none-given [] h = refl
+none-given (r ∷ rs) h = rw (h .0) (none-given rs (h .1))
+
+-- the rules before rule k do not apply, and it does
+pub first-given : (rs : List Refusal) (k : ℕ) → All (λ r. r .given ≡ false) (take k rs) → getD rs k noRule .given ≡ true
+    → firstOf rs ≡ getD rs k noRule .number
+first-given [] k h e = clash (sym e)
+first-given (r ∷ rs) zero h e = rw e
+first-given (r ∷ rs) (suc k) h e = rw (h .0) (first-given rs k (h .1) e)
+
+-- ---- an id that names a timer
+
+pub record Named (s : State) (id : ℕ) : Type 0 where
+  pub is : id ≡ idBase + indexOf id
+  pub low : 0 < indexOf id
+  pub high : indexOf id ≤ length (s .slots)
+  pub alive : slotAt (s .slots) (indexOf id) .kind ≡ 0 → ⊥
+
+module _ (s : State) (id : ℕ) where
+  -- the tests of `names`
+  abbrev tests : List Bool
+  tests = ltb idBase id ∷ leb (indexOf id) (length (s .slots)) ∷ not (eqb (slotAt (s .slots) (indexOf id) .kind) 0) ∷ []
+
+  pub named : names s id ≡ true → Named s id
+  named e =
+      let t = all-at tests e in
+      let above = ltb-true idBase id (t 0) in
+      let kind = slotAt (s .slots) (indexOf id) .kind in
+      record {
+        is = omega arith;
+        low = omega arith;
+        high = leb-true (indexOf id) (length (s .slots)) (t 1);
+        alive = eqb-false kind 0 (not-true (eqb kind 0) (t 2));
+      }
+
+  pub named-true : Named s id → names s id ≡ true
+  named-true h =
+      all-true tests (
+        lt-ltb idBase id (omega (arith, h .is, h .low)),
+        (le-leb (indexOf id) (length (s .slots)) (h .high), (rw (ne-eqb (slotAt (s .slots) (indexOf id) .kind) 0 (h .alive)), tt)),
+      )
+
+  known : not (names s id) ≡ false → Named s id
+  known e = named (not-false (names s id) e)
+
+-- ---- each call's tests, as facts
+
+pub record LaysOut (s : State) (n t : ℕ) : Type 0 where
+  pub slots-low : 1 ≤ n
+  pub slots-high : n ≤ 255
+  pub ticks-low : 1 ≤ t
+  pub ticks-high : t ≤ 1000
+  pub fits : 10 + 8 * n ≤ s .room
+
+pub record StartsByTicks (s : State) (id n r : ℕ) : Type 0 where
+  pub ticks : 0 < n
+  pub routine : 0 < r
+  pub names-one : Named s id
+
+pub record StartsByDate (s : State) (id : ℕ) (w : WallTime) (r : ℕ) : Type 0 where
+  pub running : s .clock .isSet ≡ true
+  pub routine : 0 < r
+  pub is-valid : valid w ≡ true
+  pub later : s .clock .second < secondsOf w
+  pub names-one : Named s id
+
+-- the list has three words for each slot
+abbrev pub LongEnough : State → List ℕ → Type 0
+LongEnough s list = 3 * length (s .slots) ≤ length list
+
+abbrev pub Passed : State → Call → Type 0
+Passed s (layOut n t) = LaysOut s n t
+Passed s (create name) = (0 < name) × (0 < lowestFree s)
+Passed s (ident name) = (0 < name) × (0 < lowestNamed s name)
+Passed s (cancel id) = Named s id
+Passed s (delete id) = Named s id
+Passed s (fireAfter id n r u) = StartsByTicks s id n r
+Passed s (fireWhen id w r u) = StartsByDate s id w r
+Passed s (reset id) = Named s id × (lastByTicks (slotAt (s .slots) (indexOf id) .kind) ≡ true)
+Passed s (ticksLeft id) = Named s id
+Passed s (tick list) = LongEnough s list
+Passed s (setClock w list) = LongEnough s list × (valid w ≡ true)
+Passed s getClock = s .clock .isSet ≡ true
+
+positive : (n : ℕ) → eqb n 0 ≡ false → 0 < n
+positive n e = let z = eqb-false n 0 e in omega arith
+
+-- all calls but lay out want a sound table
+abbrev pub isLayOut : Call → Bool
+isLayOut (layOut n t) = true
+isLayOut (create name) = false
+isLayOut (ident name) = false
+isLayOut (cancel id) = false
+isLayOut (delete id) = false
+isLayOut (fireAfter id n r u) = false
+isLayOut (fireWhen id w r u) = false
+isLayOut (reset id) = false
+isLayOut (ticksLeft id) = false
+isLayOut (tick list) = false
+isLayOut (setClock w list) = false
+isLayOut getClock = false
+
+module _ (unsound : Bool) (s : State) where
+  all-numbered : (c : Call) → numbered (refusals unsound s c) ≡ true
+  all-numbered (layOut n t) = refl
+  all-numbered (create name) = refl
+  all-numbered (ident name) = refl
+  all-numbered (cancel id) = refl
+  all-numbered (delete id) = refl
+  all-numbered (fireAfter id n r u) = refl
+  all-numbered (fireWhen id w r u) = refl
+  all-numbered (reset id) = refl
+  all-numbered (ticksLeft id) = refl
+  all-numbered (tick list) = refl
+  all-numbered (setClock w list) = refl
+  all-numbered getClock = refl
+
+  -- rule k of the call does not apply
+  pub not-refused : (c : Call) → firstOf (refusals unsound s c) ≡ 0 → (k : ℕ) → getD (refusals unsound s c) k noRule .given ≡ false
+  not-refused c e = passes (refusals unsound s c) (all-numbered c) e
+
+  pub passed-sound : (c : Call) → isLayOut c ≡ false → firstOf (refusals unsound s c) ≡ 0 → unsound ≡ false
+  passed-sound (layOut n t) l e = clash l
+  passed-sound (create name) l e = not-refused (create name) e 0
+  passed-sound (ident name) l e = not-refused (ident name) e 0
+  passed-sound (cancel id) l e = not-refused (cancel id) e 0
+  passed-sound (delete id) l e = not-refused (delete id) e 0
+  passed-sound (fireAfter id n r u) l e = not-refused (fireAfter id n r u) e 0
+  passed-sound (fireWhen id w r u) l e = not-refused (fireWhen id w r u) e 0
+  passed-sound (reset id) l e = not-refused (reset id) e 0
+  passed-sound (ticksLeft id) l e = not-refused (ticksLeft id) e 0
+  passed-sound (tick list) l e = not-refused (tick list) e 0
+  passed-sound (setClock w list) l e = not-refused (setClock w list) e 0
+  passed-sound getClock l e = not-refused getClock e 0
+
+  long-enough : (list : List ℕ) → isShort s list ≡ false → LongEnough s list
+  long-enough list e = ltb-false (length list) (3 * length (s .slots)) e
+
+  pub passed : (c : Call) → firstOf (refusals unsound s c) ≡ 0 → Passed s c
+  passed (layOut n t) e =
+      let p = not-refused (layOut n t) e in
+      let b = all-at (leb 1 n ∷ leb n 255 ∷ leb 1 t ∷ leb t 1000 ∷ []) (not-false (allOf (leb 1 n ∷ leb n 255 ∷ leb 1 t ∷ leb t 1000 ∷ [])) (p 0)) in
+      record {
+        slots-low = leb-true 1 n (b 0);
+        slots-high = leb-true n 255 (b 1);
+        ticks-low = leb-true 1 t (b 2);
+        ticks-high = leb-true t 1000 (b 3);
+        fits = ltb-false (s .room) (10 + 8 * n) (p 1);
+      }
+  passed (create name) e = let p = not-refused (create name) e in (positive name (p 1), positive (lowestFree s) (p 2))
+  passed (ident name) e = let p = not-refused (ident name) e in (positive name (p 1), positive (lowestNamed s name) (p 2))
+  passed (cancel id) e = known s id (not-refused (cancel id) e 1)
+  passed (delete id) e = known s id (not-refused (delete id) e 1)
+  passed (fireAfter id n r u) e =
+      let p = not-refused (fireAfter id n r u) e in
+      record { ticks = positive n (p 1); routine = positive r (p 2); names-one = known s id (p 3) }
+  passed (fireWhen id w r u) e =
+      let p = not-refused (fireWhen id w r u) e in
+      let date = both (valid w) (ltb (s .clock .second) (secondsOf w)) (not-false (valid w && ltb (s .clock .second) (secondsOf w)) (p 3)) in
+      record {
+        running = not-false (s .clock .isSet) (p 1);
+        routine = positive r (p 2);
+        is-valid = date .0;
+        later = ltb-true (s .clock .second) (secondsOf w) (date .1);
+        names-one = known s id (p 4);
+      }
+  passed (reset id) e =
+      let p = not-refused (reset id) e in
+      (known s id (p 1), not-false (lastByTicks (slotAt (s .slots) (indexOf id) .kind)) (p 2))
+  passed (ticksLeft id) e = known s id (not-refused (ticksLeft id) e 1)
+  passed (tick list) e = long-enough list (not-refused (tick list) e 1)
+  passed (setClock w list) e = let p = not-refused (setClock w list) e in (long-enough list (p 1), not-false (valid w) (p 2))
+  passed getClock e = not-false (s .clock .isSet) (not-refused getClock e 1)

@@ -1,0 +1,52 @@
+-- Soundness as it is seen on the state: what the proofs of the calls use of it, and keep. Assumes nothing: these are definitions.
+use mathlib.Core.Path.{_≡_}
+use Prim.Native.Nat.{ℕ, _+_, _*_, _≤_, _<_}
+use mathlib.Core.Bool.{true, false, cond}
+use mathlib.Core.List.{List, []}
+use lib.ListN.{length}
+use lib.Dec.{eqb}
+use Rattle.model.specs.Lists.{count, All, Sorted}
+use Rattle.model.specs.Kinds.{Chain, waitsIn, lastByTicks}
+use Rattle.model.specs.State.{Slot, Link, State, chainOf, slotAt}
+use Rattle.calendar.specs.Calendar.{lastSecond}
+use Rattle.model.specs.Words.{over}
+
+-- how often the slot i stands in a chain
+abbrev pub timesIn : List Link → ℕ → ℕ
+timesIn l i = count (λ w. eqb (w .slot) i) l
+
+-- The chains are in order. This holds between the steps of a call too, where the first wait may be 0 and dates may be past.
+pub record Chained (s : State) : Type 0 where
+  pub few : length (s .slots) ≤ 255
+  pub meets : (k : Chain) (i : ℕ) → timesIn (chainOf k s) i ≡ cond (waitsIn k (slotAt (s .slots) i .kind)) 1 0
+  pub rises : (k : Chain) → Sorted (λ w. w .wait) (chainOf k s)
+  pub bounded : All (λ w. w .wait ≤ slotAt (s .slots) (w .slot) .interval) (s .ticking)
+
+-- the words of one slot, links and wait apart
+pub record Shape (x : Slot) : Type 0 where
+  pub kinds : x .kind ≤ 5
+  pub nameless : x .kind ≡ 0 → x .name ≡ 0
+  pub named : 0 < x .kind → 0 < x .name
+  pub blank : x .kind ≤ 1 → (x .interval ≡ 0) × (x .routine ≡ 0) × (x .userData ≡ 0)
+  pub used : 2 ≤ x .kind → 0 < x .routine
+  pub by-ticks : lastByTicks (x .kind) ≡ true → 0 < x .interval
+  pub by-date : lastByTicks (x .kind) ≡ false → x .interval ≡ 0
+
+pub record WellFormed (s : State) : Type 0 where
+  pub chained : Chained s
+  pub some-slot : 1 ≤ length (s .slots)
+  pub per-low : 1 ≤ s .clock .perSecond
+  pub per-high : s .clock .perSecond ≤ 1000
+  pub into : s .clock .ticksInto < s .clock .perSecond
+  pub second-high : s .clock .second ≤ lastSecond
+  pub unset : s .clock .isSet ≡ false → (s .clock .second ≡ 0) × (s .clock .ticksInto ≡ 0) × (s .dated ≡ [])
+  pub shape : (i : ℕ) → Shape (slotAt (s .slots) i)
+  pub ticks : All (λ w. 1 ≤ w .wait) (s .ticking)
+  pub dates : All (λ w. (s .clock .second < w .wait) × (w .wait ≤ lastSecond)) (s .dated)
+
+-- the words of t are those of s, and the chains of s are in order
+pub record Holds (t : List ℕ) (s : State) : Type 0 where
+  pub is : over s t ≡ t
+  pub long : 10 + 8 * length (s .slots) ≤ length t
+  pub room : s .room ≡ length t
+  pub chained : Chained s

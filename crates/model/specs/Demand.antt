@@ -1,0 +1,69 @@
+-- Demand 3: one statement about every list of calls from every accepted lay out. Assumes nothing: these are definitions.
+use mathlib.Core.Path.{_≡_}
+use Prim.Native.Nat.{ℕ, _+_, _≤_}
+use mathlib.Core.Bool.{true, false, cond}
+use mathlib.Core.List.{List, [], _∷_, _++_, map, reverse}
+use lib.ListN.{length}
+use lib.Dec.{eqb}
+use Rattle.model.specs.Lists.{keep, count, InOrder}
+use Rattle.model.specs.Calls.{Call, layOut}
+use Rattle.model.specs.Kinds.{Chain, ByTicks, ByDate}
+use Rattle.model.specs.State.{Slot, Link, listed}
+use Rattle.model.specs.Directives.{effect}
+use Rattle.model.specs.Words.{word, field, first, along, links, read}
+use Rattle.model.specs.Sound.{sound}
+use Rattle.model.specs.Outcome.{outcome, written, refused}
+use Rattle.model.specs.History.{Event, Placed, Waiting, eventOf, eventsFrom, moves, starts, waits, fires, inChain, dueAt, waiting, entry}
+
+-- Each call gets the table that the last one left.
+abbrev pub after : List ℕ → List Call → List ℕ
+after t [] = t
+after t (c ∷ cs) = after (outcome t c .table) cs
+
+-- Accepted means status 0.
+abbrev pub acceptedIn : List ℕ → List Call → List Call
+acceptedIn t [] = []
+acceptedIn t (c ∷ cs) = cond (eqb (outcome t c .status) 0) (c ∷ acceptedIn (outcome t c .table) cs) (acceptedIn (outcome t c .table) cs)
+
+-- a link of a chain with the entry of its slot
+abbrev pub shown : List Slot → Link → Waiting
+shown slots w = record { shows = listed slots w; wait = w .wait }
+
+-- What the table t has to be after these events.
+pub record Standing (t : List ℕ) (es : List Event) : Type 0 where
+  pub is-sound : sound t ≡ true
+  -- Each chain gives its own waiting timers in firing order by next from word 5 or 6, the earlier start first among equals,
+  -- with their ticks left or dates, and the routine and data of their starts; and nothing else.
+  pub by-next : (k : Chain) → (l : List Placed) × InOrder dueAt (keep (inChain k) (keep waits (starts es))) l
+      × (map (shown (read t .slots)) (links k t) ≡ map waiting l)
+  -- The same in reverse by previous from its last slot.
+  pub by-previous : (k : Chain) → along (field t 7) (word t 0) (first (reverse (links k t))) ≡ map (λ w. w .slot) (reverse (links k t))
+  -- Each waiting timer stands there once.
+  pub once : (i : ℕ) → count (λ w. eqb (w .slot) i) (links ByTicks t) + count (λ w. eqb (w .slot) i) (links ByDate t) ≤ 1
+
+-- What the call c has to do to the table t after these events; e is what it is, if accepted.
+pub record Answers (t : List ℕ) (es : List Event) (c : Call) (e : Event) : Type 0 where
+  -- The timers that fire are written to the list: those due in this call and not ended before, interval ones first, each kind in firing
+  -- order. A tick and a set clock answer their number. There are never more than slots. No other call lists anything.
+  pub lists : outcome t c .status ≡ 0 → (l : List Placed) × (m : List Placed)
+      × InOrder dueAt (keep (inChain ByTicks) (keep (fires e) (starts es))) l
+      × InOrder dueAt (keep (inChain ByDate) (keep (fires e) (starts es))) m
+      × (outcome t c .list ≡ written (map entry (l ++ m)) (effect (read t) c .lent))
+      × (moves e ≡ true → outcome t c .answer ≡ length (l ++ m) ∷ [])
+      × (moves e ≡ false → l ++ m ≡ [])
+      × (length (l ++ m) ≤ word t 0)
+  -- A refused call changes no word and answers zero.
+  pub refuses : (outcome t c .status ≡ 0 → ⊥) → outcome t c ≡ refused (outcome t c .status) t c
+
+-- the table that a lay out leaves, and what the accepted calls of xs after it mean
+abbrev pub laid : List ℕ → ℕ → ℕ → List ℕ
+laid w n t = outcome w (layOut n t) .table
+
+abbrev pub eventsAfter : List ℕ → ℕ → ℕ → List Call → List Event
+eventsAfter w n t xs = eventsFrom [] (layOut n t ∷ acceptedIn (laid w n t) xs)
+
+-- The demand for the whole list cs from the slice w, laid out for n and t: after every prefix, and in every call.
+pub record Demand3 (w : List ℕ) (n t : ℕ) (cs : List Call) : Type 0 where
+  pub standing : (xs ys : List Call) → xs ++ ys ≡ cs → Standing (after (laid w n t) xs) (eventsAfter w n t xs)
+  pub answers : (xs ys : List Call) (c : Call) → xs ++ (c ∷ ys) ≡ cs →
+      Answers (after (laid w n t) xs) (eventsAfter w n t xs) c (eventOf (reverse (eventsAfter w n t xs)) c)

@@ -1,0 +1,168 @@
+-- Document 01, "What each call does" and "Status numbers", in its order. Assumes nothing: these are definitions.
+use Prim.Native.Nat.{ℕ, suc, _+_, _-_, _*_}
+use mathlib.Core.Bool.{Bool, true, false, cond, not, _&&_}
+use mathlib.Core.List.{List, [], _∷_, _++_, map}
+use lib.ListN.{length, replicate}
+use lib.Dec.{leb, ltb, eqb}
+use Rattle.calendar.specs.declared.WallTime.{WallTime}
+use Rattle.calendar.specs.Calendar.{allOf, valid, secondsOf, lastSecond, dateOf}
+use Rattle.model.specs.Lists.{keep, place}
+use Rattle.model.specs.Status.{Refusal, when, InvalidName, InvalidId, TooMany, InvalidSize, InvalidAddress, InvalidNumber, NotDefined, InvalidClock, NotSound, ListTooShort}
+use Rattle.model.specs.Calls.{Call, layOut, create, ident, cancel, delete, fireAfter, fireWhen, reset, ticksLeft, tick, setClock, getClock}
+use Rattle.model.specs.Kinds.{Chain, ByTicks, ByDate, waitingKind, idleOf, lastByTicks}
+use Rattle.model.specs.State.{Slot, Link, Clock, State, chainOf, rechain, reclock, free, slotAt, putAt, lowest, without, waitAt, idBase, indexOf, names}
+
+-- ---- when a call is refused, in the order of the rules
+
+abbrev pub lowestFree : State → ℕ
+lowestFree s = lowest (λ x. eqb (x .kind) 0) 1 (s .slots)
+
+abbrev pub lowestNamed : State → ℕ → ℕ
+lowestNamed s name = lowest (λ x. eqb (x .name) name) 1 (s .slots)
+
+-- the list is shorter than 3N words; the date is not valid or not after the present second
+abbrev pub isShort : State → List ℕ → Bool
+isShort s list = ltb (length list) (3 * length (s .slots))
+
+abbrev pub isPast : State → WallTime → Bool
+isPast s w = not (valid w && ltb (s .clock .second) (secondsOf w))
+
+-- `unsound` says that the table is not sound
+abbrev pub refusals : Bool → State → Call → List Refusal
+refusals unsound s (layOut n t) =
+    when InvalidNumber (not (allOf (leb 1 n ∷ leb n 255 ∷ leb 1 t ∷ leb t 1000 ∷ []))) ∷ when InvalidSize (ltb (s .room) (10 + 8 * n)) ∷ []
+refusals unsound s (create name) = when NotSound unsound ∷ when InvalidName (eqb name 0) ∷ when TooMany (eqb (lowestFree s) 0) ∷ []
+refusals unsound s (ident name) =
+    when NotSound unsound ∷ when InvalidName (eqb name 0) ∷ when InvalidName (eqb (lowestNamed s name) 0) ∷ []
+refusals unsound s (cancel id) = when NotSound unsound ∷ when InvalidId (not (names s id)) ∷ []
+refusals unsound s (delete id) = when NotSound unsound ∷ when InvalidId (not (names s id)) ∷ []
+refusals unsound s (fireAfter id n r u) =
+    when NotSound unsound ∷ when InvalidNumber (eqb n 0) ∷ when InvalidAddress (eqb r 0) ∷ when InvalidId (not (names s id)) ∷ []
+refusals unsound s (fireWhen id w r u) =
+    when NotSound unsound ∷ when NotDefined (not (s .clock .isSet)) ∷ when InvalidAddress (eqb r 0)
+    ∷ when InvalidClock (isPast s w) ∷ when InvalidId (not (names s id)) ∷ []
+refusals unsound s (reset id) =
+    when NotSound unsound ∷ when InvalidId (not (names s id))
+    ∷ when NotDefined (not (lastByTicks (slotAt (s .slots) (indexOf id) .kind))) ∷ []
+refusals unsound s (ticksLeft id) = when NotSound unsound ∷ when InvalidId (not (names s id)) ∷ []
+refusals unsound s (tick list) = when NotSound unsound ∷ when ListTooShort (isShort s list) ∷ []
+refusals unsound s (setClock w list) =
+    when NotSound unsound ∷ when ListTooShort (isShort s list) ∷ when InvalidClock (not (valid w)) ∷ []
+refusals unsound s getClock = when NotSound unsound ∷ when NotDefined (not (s .clock .isSet)) ∷ []
+
+-- ---- the parts of the calls' work
+
+-- Lay out: header as given, clock not set, all slots free.
+abbrev pub laidOut : ℕ → ℕ → ℕ → State
+laidOut room n t =
+    let clock : Clock = record { perSecond = t; isSet = false; second = 0; ticksInto = 0 } in
+    record { room = room; slots = replicate n free; clock = clock; ticking = []; dated = [] }
+
+-- slot i, in no chain, becomes x
+abbrev pub stored : State → ℕ → Slot → State
+stored s i x = rechain ByTicks s (putAt (s .slots) i x) (s .ticking)
+
+-- Create: the slot becomes kind 1.
+abbrev pub unused : ℕ → Slot
+unused name = record { kind = 1; name = name; interval = 0; routine = 0; userData = 0 }
+
+-- slot i becomes x and waits no more
+abbrev pub stopped : State → ℕ → Slot → State
+stopped s i x =
+    let slots = putAt (s .slots) i x in
+    rechain ByTicks (rechain ByDate s slots (without i (s .dated))) slots (without i (s .ticking))
+
+-- Cancel: a waiting timer becomes idle of its own kind. One that isn't waiting stays as it is.
+abbrev pub idled : Slot → Slot
+idled x = record { kind = idleOf (x .kind); name = x .name; interval = x .interval; routine = x .routine; userData = x .userData }
+
+-- Fire after, fire when: cancelled if waiting, then waits. It goes behind every timer due at the same tick, or date.
+abbrev pub queued : Chain → State → ℕ → ℕ → State
+queued k s i wait = rechain k s (s .slots) (place (λ w. w .wait) (record { slot = i; wait = wait }) (chainOf k s))
+
+abbrev pub waitingAs : Chain → Slot → ℕ → ℕ → ℕ → Slot
+waitingAs k x interval routine userData =
+    record { kind = waitingKind k; name = x .name; interval = interval; routine = routine; userData = userData }
+
+abbrev pub started : Chain → State → ℕ → ℕ → ℕ → ℕ → ℕ → State
+started k s i wait interval routine userData =
+    queued k (stopped s i (waitingAs k (slotAt (s .slots) i) interval routine userData)) i wait
+
+-- A fired timer becomes idle of its kind.
+abbrev pub idleAll : List Link → List Slot → List Slot
+idleAll [] slots = slots
+idleAll (w ∷ ws) slots = idleAll ws (putAt slots (w .slot) (idled (slotAt slots (w .slot))))
+
+-- the timers of chain k at or before a number, in chain order; and the state after they fired
+abbrev pub due : Chain → ℕ → State → List Link
+due k limit s = keep (λ w. leb (w .wait) limit) (chainOf k s)
+
+abbrev pub fire : Chain → ℕ → State → State
+fire k limit s = rechain k s (idleAll (due k limit s) (s .slots)) (keep (λ w. ltb limit (w .wait)) (chainOf k s))
+
+-- Tick: every interval timer comes one tick nearer.
+abbrev pub closer : Link → Link
+closer w = record { slot = w .slot; wait = w .wait - 1 }
+
+abbrev pub nearer : State → State
+nearer s = rechain ByTicks s (s .slots) (map closer (s .ticking))
+
+abbrev pub clockAt : Clock → ℕ → ℕ → Clock
+clockAt c second ticksInto = record { perSecond = c .perSecond; isSet = true; second = second; ticksInto = ticksInto }
+
+-- If the clock is set, word 4 goes up by one; at T it becomes 0 and the second goes up. At the last tick of the last second it stands still.
+abbrev pub clockStep : Clock → Clock
+clockStep c =
+    cond (c .isSet)
+    (cond (ltb (suc (c .ticksInto)) (c .perSecond)) (clockAt c (c .second) (suc (c .ticksInto)))
+    (cond (ltb (c .second) lastSecond) (clockAt c (suc (c .second)) 0) c))
+    c
+
+-- ---- what each call does where it is accepted: the state it leaves, its answer, the timers that fire, in order, and the list it was lent
+
+pub record Effect : Type 0 where
+  pub state : State
+  pub answer : List ℕ
+  pub fired : List Link
+  pub lent : List ℕ
+
+abbrev pub leaves : State → ℕ → Effect
+leaves s n = record { state = s; answer = n ∷ []; fired = []; lent = [] }
+
+-- The answer is the count.
+abbrev pub firing : State → List Link → List ℕ → Effect
+firing s links list = record { state = s; answer = length links ∷ []; fired = links; lent = list }
+
+-- Those at zero fire in chain order; then, at the clock's new second, dated timers. Where the second did not go up none are due, since
+-- all dates are above it.
+abbrev pub ticked : State → List ℕ → Effect
+ticked s list =
+    let near = nearer s in
+    let clock = clockStep (s .clock) in
+    let later = reclock (fire ByTicks 0 near) clock in
+    firing (fire ByDate (clock .second) later) (due ByTicks 0 near ++ due ByDate (clock .second) later) list
+
+-- Set clock: seconds as given, word 4 to 0, clock set. Dated timers at or before the new second fire now.
+abbrev pub clockMoved : State → ℕ → List ℕ → Effect
+clockMoved s second list =
+    let now = reclock s (clockAt (s .clock) second 0) in firing (fire ByDate second now) (due ByDate second now) list
+
+-- Get clock gives the date and, in ticks, word 4.
+abbrev pub numbers : WallTime → ℕ → List ℕ
+numbers w ticks = w .year ∷ w .month ∷ w .day ∷ w .hour ∷ w .minute ∷ w .second ∷ ticks ∷ []
+
+abbrev pub effect : State → Call → Effect
+effect s (layOut n t) = leaves (laidOut (s .room) n t) 0
+effect s (create name) = leaves (stored s (lowestFree s) (unused name)) (idBase + lowestFree s)
+effect s (ident name) = leaves s (idBase + lowestNamed s name)
+effect s (cancel id) = leaves (stopped s (indexOf id) (idled (slotAt (s .slots) (indexOf id)))) 0
+effect s (delete id) = leaves (stopped s (indexOf id) free) 0
+effect s (fireAfter id n r u) = leaves (started ByTicks s (indexOf id) n n r u) 0
+effect s (fireWhen id w r u) = leaves (started ByDate s (indexOf id) (secondsOf w) 0 r u) 0
+effect s (reset id) =
+    let x = slotAt (s .slots) (indexOf id) in
+    leaves (started ByTicks s (indexOf id) (x .interval) (x .interval) (x .routine) (x .userData)) 0
+effect s (ticksLeft id) = leaves s (waitAt (indexOf id) (s .ticking))
+effect s (tick list) = ticked s list
+effect s (setClock w list) = clockMoved s (secondsOf w) list
+effect s getClock = record { state = s; answer = numbers (dateOf (s .clock .second)) (s .clock .ticksInto); fired = []; lent = [] }

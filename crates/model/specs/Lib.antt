@@ -1,0 +1,11 @@
+pub mod Lists
+pub mod Status
+pub mod Calls
+pub mod Kinds
+pub mod State
+pub mod Directives
+pub mod Words
+pub mod Sound
+pub mod Outcome
+pub mod History
+pub mod Demand

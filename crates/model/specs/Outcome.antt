@@ -1,0 +1,43 @@
+-- Every call on the words of a lent table, and of a lent fired list: status, answer, new table, new list, for all inputs.
+-- Assumes nothing: these are definitions.
+use Prim.Native.Nat.{ℕ}
+use mathlib.Core.Bool.{cond, not}
+use mathlib.Core.List.{List, [], _∷_, _++_, map}
+use lib.ListN.{length, drop, replicate}
+use lib.Dec.{eqb}
+use Rattle.model.specs.Status.{firstOf}
+use Rattle.model.specs.Calls.{Call}
+use Rattle.model.specs.State.{Fired, listed}
+use Rattle.model.specs.Directives.{refusals, effect}
+use Rattle.model.specs.Words.{over, read}
+use Rattle.model.specs.Sound.{sound}
+
+pub record Outcome : Type 0 where
+  pub status : ℕ
+  pub answer : List ℕ
+  pub table : List ℕ
+  pub list : List ℕ
+
+unfoldable pub statusOn : List ℕ → Call → ℕ
+statusOn t c = firstOf (refusals (not (sound t)) (read t) c)
+
+-- Each refusal answers 0 besides (get clock: seven zeros) and leaves table and list alike untouched.
+abbrev pub refused : ℕ → List ℕ → Call → Outcome
+refused status t c =
+    let e = effect (read t) c in record { status = status; answer = replicate (length (e .answer)) 0; table = t; list = e .lent }
+
+-- The fired list takes three words each: id, routine, user data; words after those written stay.
+abbrev pub entryWords : List Fired → List ℕ
+entryWords [] = []
+entryWords (f ∷ fs) = f .id ∷ f .routine ∷ f .userData ∷ entryWords fs
+
+abbrev pub written : List Fired → List ℕ → List ℕ
+written fs list = entryWords fs ++ drop (length (entryWords fs)) list
+
+abbrev pub accepted : List ℕ → Call → Outcome
+accepted t c =
+    let e = effect (read t) c in
+    record { status = 0; answer = e .answer; table = over (e .state) t; list = written (map (listed (read t .slots)) (e .fired)) (e .lent) }
+
+unfoldable pub outcome : List ℕ → Call → Outcome
+outcome t c = cond (eqb (statusOn t c) 0) (accepted t c) (refused (statusOn t c) t c)

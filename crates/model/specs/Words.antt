@@ -1,0 +1,109 @@
+-- Document 01, "The table, in 32-bit words": how a state stands in the words of a slice, and how it is read from them.
+--
+--   word 0 slot count N          word 5 first slot of the interval chain     slot i, from 1, is the eight words from 2 + 8i on:
+--   word 1 ticks in a second T   word 6 first slot of the dated chain        0 kind      1 name     2 interval   3 wait
+--   word 2 clock set, 0 or 1     words 7 to 9 zero                           4 routine   5 data     6 next       7 previous
+--   word 3 seconds               word 4 ticks into the second                link 0 means none; words past 10 + 8N are not the table's
+--
+-- Assumes nothing: these are definitions.
+use Prim.Native.Nat.{ℕ, zero, suc, _+_, _-_, _*_}
+use mathlib.Core.Bool.{cond}
+use mathlib.Core.List.{List, [], _∷_}
+use lib.ListN.{length, getD, drop}
+use lib.Dec.{eqb}
+use Rattle.model.specs.Kinds.{Chain, ByTicks, ByDate}
+use Rattle.model.specs.State.{Slot, Link, Clock, State}
+
+-- ---- writing
+
+-- the slot of the first link, 0 if there is none
+abbrev pub first : List Link → ℕ
+first [] = 0
+first (w ∷ ws) = w .slot
+
+-- The wait of a kind 4 slot is the ticks after the slot before it, that of a kind 5 slot its date.
+abbrev pub difference : Chain → ℕ → ℕ → ℕ
+difference ByTicks before wait = wait - before
+difference ByDate before wait = wait
+
+-- the words next, previous and wait of the slot i, from the chain that it is in; 0 where it is in none
+abbrev pub nextIn : List Link → ℕ → ℕ
+nextIn [] i = 0
+nextIn (w ∷ ws) i = cond (eqb (w .slot) i) (first ws) (nextIn ws i)
+
+abbrev pub previousIn : ℕ → List Link → ℕ → ℕ
+previousIn p [] i = 0
+previousIn p (w ∷ ws) i = cond (eqb (w .slot) i) p (previousIn (w .slot) ws i)
+
+abbrev pub waitIn : Chain → ℕ → List Link → ℕ → ℕ
+waitIn k b [] i = 0
+waitIn k b (w ∷ ws) i = cond (eqb (w .slot) i) (difference k b (w .wait)) (waitIn k (w .wait) ws i)
+
+-- a slot is in one of the chains at most, so that one of each two numbers is 0
+abbrev pub slotWords : State → ℕ → Slot → List ℕ → List ℕ
+slotWords s i x rest =
+    x .kind ∷ x .name ∷ x .interval ∷ (waitIn ByTicks 0 (s .ticking) i + waitIn ByDate 0 (s .dated) i) ∷ x .routine ∷ x .userData
+    ∷ (nextIn (s .ticking) i + nextIn (s .dated) i) ∷ (previousIn 0 (s .ticking) i + previousIn 0 (s .dated) i) ∷ rest
+
+abbrev pub allSlots : State → ℕ → List Slot → List ℕ → List ℕ
+allSlots s i [] rest = rest
+allSlots s i (x ∷ xs) rest = slotWords s i x (allSlots s (suc i) xs rest)
+
+abbrev pub write : State → List ℕ → List ℕ
+write s rest =
+    length (s .slots) ∷ s .clock .perSecond ∷ cond (s .clock .isSet) 1 0 ∷ s .clock .second ∷ s .clock .ticksInto
+    ∷ first (s .ticking) ∷ first (s .dated) ∷ 0 ∷ 0 ∷ 0 ∷ allSlots s 1 (s .slots) rest
+
+-- the words of a state at the front of a slice. Words past 10 + 8N are never changed.
+abbrev pub over : State → List ℕ → List ℕ
+over s t = write s (drop (10 + 8 * length (s .slots)) t)
+
+-- ---- reading
+
+-- word m of a slice; word f of slot i
+abbrev pub word : List ℕ → ℕ → ℕ
+word t m = getD t m 0
+
+abbrev pub field : List ℕ → ℕ → ℕ → ℕ
+field t f i = getD t (2 + 8 * i + f) 0
+
+-- the word that holds the first slot of a chain
+abbrev pub headWord : Chain → ℕ
+headWord ByTicks = 5
+headWord ByDate = 6
+
+-- the slots along the links from slot i on, at most `fuel` of them
+abbrev pub along : (ℕ → ℕ) → ℕ → ℕ → List ℕ
+along next zero i = []
+along next (suc fuel) zero = []
+along next (suc fuel) (suc i) = suc i ∷ along next fuel (next (suc i))
+
+-- A timer's ticks left are found by adding its word and those of every slot before it.
+abbrev pub total : Chain → ℕ → ℕ → ℕ
+total ByTicks before wait = before + wait
+total ByDate before wait = wait
+
+-- the links of chain k from slot i on, at most `fuel` of them, behind a slot with that wait
+abbrev pub linksFrom : Chain → List ℕ → ℕ → ℕ → ℕ → List Link
+linksFrom k t zero before i = []
+linksFrom k t (suc fuel) before zero = []
+linksFrom k t (suc fuel) before (suc i) =
+    record { slot = suc i; wait = total k before (field t 3 (suc i)) }
+    ∷ linksFrom k t fuel (total k before (field t 3 (suc i))) (field t 6 (suc i))
+
+abbrev pub links : Chain → List ℕ → List Link
+links k t = linksFrom k t (word t 0) 0 (word t (headWord k))
+
+abbrev pub slotFrom : List ℕ → ℕ → Slot
+slotFrom t i =
+    record { kind = field t 0 i; name = field t 1 i; interval = field t 2 i; routine = field t 4 i; userData = field t 5 i }
+
+-- n slots from i on
+abbrev pub slotsFrom : List ℕ → ℕ → ℕ → List Slot
+slotsFrom t i zero = []
+slotsFrom t i (suc n) = slotFrom t i ∷ slotsFrom t (suc i) n
+
+abbrev pub read : List ℕ → State
+read t =
+    let clock : Clock = record { perSecond = word t 1; isSet = eqb (word t 2) 1; second = word t 3; ticksInto = word t 4 } in
+    record { room = length t; slots = slotsFrom t 1 (word t 0); clock = clock; ticking = links ByTicks t; dated = links ByDate t }
