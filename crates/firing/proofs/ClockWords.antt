@@ -1,0 +1,83 @@
+-- The clock in the words of a table: words 1 to 4 are the clock's, and no other word depends on it, so that a store to them is the state with
+-- another clock; and which clock a step gives. Assumes nothing.
+use mathlib.Core.Path.{_≡_, refl, sym, ap, ap₂, _∙_}
+use mathlib.Core.Logic.{_≢_}
+use Prim.Native.Nat.{ℕ, suc, _+_, _*_, _≤_, _<_}
+use native.Mathlib.Omega.{arith}
+use mathlib.Core.Bool.{Bool, true, cond}
+use mathlib.Core.List.{List, [], _∷_}
+use lib.ListN.{length, set, drop}
+use lib.Seq.{getD-set-other, set-getD}
+use borrow.Author.Tests.{eq-eqb, ne-eqb, lt-ltb, le-ltb}
+use Rattle.calendar.specs.Calendar.{lastSecond}
+use Rattle.model.specs.State.{Slot, Clock, State, reclock}
+use Rattle.model.specs.Directives.{clockAt, clockStep}
+use Rattle.model.specs.Words.{first, slotWords, allSlots, over, word, read}
+use Rattle.model.proofs.WellFormed.{Holds}
+use Rattle.model.proofs.ClockSteps.{clock-unset}
+
+-- ---- the words
+
+slots-same : (s : State) (c : Clock) (i : ℕ) (xs : List Slot) (rest : List ℕ) → allSlots s i xs rest ≡ allSlots (reclock s c) i xs rest
+slots-same s c i [] rest = refl
+slots-same s c i (x ∷ xs) rest = ap (slotWords s i x) (slots-same s c (suc i) xs rest)
+
+-- the words of s with words 2 to 4 as given
+abbrev withClock : State → ℕ → ℕ → ℕ → List ℕ → List ℕ
+withClock s isSet second into rest =
+    length (s .slots) ∷ s .clock .perSecond ∷ isSet ∷ second ∷ into ∷ first (s .ticking) ∷ first (s .dated) ∷ 0 ∷ 0 ∷ 0 ∷ rest
+
+module _ (t : List ℕ) (s : State) (is : over s t ≡ t) (second into : ℕ) where
+  same : allSlots s 1 (s .slots) (drop (10 + 8 * length (s .slots)) t)
+      ≡ allSlots (reclock s (clockAt (s .clock) second into)) 1 (s .slots) (drop (10 + 8 * length (s .slots)) t)
+  same = slots-same s (clockAt (s .clock) second into) 1 (s .slots) (drop (10 + 8 * length (s .slots)) t)
+
+  -- the clock is set to a second
+  clock-placed : set (set (set t 2 1) 3 second) 4 into ≡ over (reclock s (clockAt (s .clock) second into)) t
+  clock-placed = ap (λ (u : List ℕ). set (set (set u 2 1) 3 second) 4 into) (sym is) ∙ ap (withClock s 1 second into) same
+
+  -- a clock that is set goes on
+  clock-moved : s .clock .isSet ≡ true → set (set t 4 into) 3 second ≡ over (reclock s (clockAt (s .clock) second into)) t
+  clock-moved on =
+      ap (λ (u : List ℕ). set (set u 4 into) 3 second) (sym is)
+      ∙ ap₂ (λ (b : Bool) (r : List ℕ). withClock s (cond b 1 0) second into r) on same
+
+-- ---- what the code leaves
+
+module _ (t : List ℕ) (h : Holds t (read t)) where
+  pub clock-set : (second : ℕ) → set (set (set t 2 1) 3 second) 4 0 ≡ over (reclock (read t) (clockAt (read t .clock) second 0)) t
+  clock-set second = clock-placed t (read t) (h .is) second 0
+
+  stands : clockStep (read t .clock) ≡ read t .clock → t ≡ over (reclock (read t) (clockStep (read t .clock))) t
+  stands e = sym (ap (λ (c : Clock). over (reclock (read t) c) t) e ∙ h .is)
+
+  goes : (second into : ℕ) → word t 2 ≡ 1 → clockStep (read t .clock) ≡ clockAt (read t .clock) second into
+      → set (set t 4 into) 3 second ≡ over (reclock (read t) (clockStep (read t .clock))) t
+  goes second into on e =
+      clock-moved t (read t) (h .is) second into (eq-eqb (word t 2) 1 on) ∙ ap (λ (c : Clock). over (reclock (read t) c) t) (sym e)
+
+  pub step-unset : word t 2 ≢ 1 → t ≡ over (reclock (read t) (clockStep (read t .clock))) t
+  step-unset n = stands (clock-unset (read t .clock) (ne-eqb (word t 2) 1 n))
+
+  module _ (on : word t 2 ≡ 1) where
+    pub step-within : word t 4 + 1 < word t 1 → set t 4 (word t 4 + 1) ≡ over (reclock (read t) (clockStep (read t .clock))) t
+    step-within p =
+        let one : word t 4 + 1 ≡ suc (word t 4) = omega arith in
+        sym (keeps (set t 4 (word t 4 + 1)) (getD-set-other t 4 3 (word t 4 + 1) 0 (omega arith)))
+        ∙ goes (word t 3) (word t 4 + 1) on
+        (rw (eq-eqb (word t 2) 1 on, lt-ltb (suc (word t 4)) (word t 1) (omega arith)) (ap (clockAt (read t .clock) (word t 3)) (sym one)))
+      where
+        keeps : (u : List ℕ) → word u 3 ≡ word t 3 → set u 3 (word t 3) ≡ u
+        keeps u q = ap (set u 3) (sym q) ∙ set-getD u 3 0
+
+    module _ (full : word t 1 ≤ word t 4 + 1) where
+      pub step-next : word t 3 < lastSecond → set (set t 4 0) 3 (word t 3 + 1) ≡ over (reclock (read t) (clockStep (read t .clock))) t
+      step-next p =
+          let one : word t 3 + 1 ≡ suc (word t 3) = omega arith in
+          goes (word t 3 + 1) 0 on
+          (rw (eq-eqb (word t 2) 1 on, le-ltb (suc (word t 4)) (word t 1) (omega arith), lt-ltb (word t 3) lastSecond p)
+          (ap (λ (n : ℕ). clockAt (read t .clock) n 0) (sym one)))
+
+      pub step-last : lastSecond ≤ word t 3 → t ≡ over (reclock (read t) (clockStep (read t .clock))) t
+      step-last p =
+          stands (rw (eq-eqb (word t 2) 1 on, le-ltb (suc (word t 4)) (word t 1) (omega arith), le-ltb (word t 3) lastSecond p))

@@ -1,0 +1,138 @@
+-- One tick nearer: the wait of the first interval timer falls by one, and since those behind it count from it, so do all ticks left. The
+-- words of the new table are compared with those of the state a tick nearer, one by one. Assumes nothing.
+use mathlib.Core.Path.{_≡_, refl, sym, ap, _∙_, subst}
+use mathlib.Core.Logic.{_≢_}
+use Prim.Native.Nat.{ℕ, _+_, _-_, _*_, _≤_, _<_}
+use native.Mathlib.Omega.{arith}
+use mathlib.Core.Bool.{true, cond}
+use mathlib.Core.List.{List, [], _∷_, map}
+use lib.ListN.{length, getD, set, length-set}
+use lib.Seq.{getD-set-same, getD-set-other, drop-set-lt}
+use lib.Dec.{eqb}
+use borrow.Author.Tests.{eqb-true, eqb-false}
+use Rattle.model.specs.declared.Chain.the-variants.{ByTicks, ByDate}
+use Rattle.model.specs.Lists.{All}
+use Rattle.model.specs.State.{Link, State, slotAt}
+use Rattle.model.specs.Directives.{closer, nearer}
+use Rattle.model.specs.Words.{first, nextIn, previousIn, waitIn, slotWords, write, over, word, field, read}
+use Rattle.model.specs.Sound.{sound}
+use Rattle.model.proofs.ListLaws.{cases}
+use Rattle.model.proofs.Each.{end, _&_, each-at}
+use Rattle.model.proofs.WellFormed.{Holds}
+use Rattle.model.proofs.Spelling.{headWords, Spelled, holds-spelled, spelled-over}
+use Rattle.model.proofs.SoundHolds.{sound-holds, sound-well-formed}
+use Rattle.firing.proofs.Heads.{Front, no-front}
+
+-- ---- the words of a chain whose waits all fell
+
+first-closer : (c : List Link) → first (map closer c) ≡ first c
+first-closer [] = refl
+first-closer (w ∷ ws) = refl
+
+next-closer : (c : List Link) (i : ℕ) → nextIn (map closer c) i ≡ nextIn c i
+next-closer [] i = refl
+next-closer (w ∷ ws) i = cases (eqb (w .slot) i) (λ e. rw e (first-closer ws)) (λ e. rw e (next-closer ws i))
+
+previous-closer : (p : ℕ) (c : List Link) (i : ℕ) → previousIn p (map closer c) i ≡ previousIn p c i
+previous-closer p [] i = refl
+previous-closer p (w ∷ ws) i = cases (eqb (w .slot) i) (λ e. rw e) (λ e. rw e (previous-closer (w .slot) ws i))
+
+wait-closer : (b : ℕ) (c : List Link) (i : ℕ) → 1 ≤ b → All (λ w. 1 ≤ w .wait) c → waitIn ByTicks (b - 1) (map closer c) i ≡ waitIn ByTicks b c i
+wait-closer b [] i p h = refl
+wait-closer b (w ∷ ws) i p h =
+    let q = h .0 in cases (eqb (w .slot) i) (λ e. rw e (omega arith)) (λ e. rw e (wait-closer (w .wait) ws i (h .0) (h .1)))
+
+-- only the first link's word falls
+first-falls : (w : Link) (ws : List Link) (i : ℕ) → All (λ v. 1 ≤ v .wait) (w ∷ ws)
+    → waitIn ByTicks 0 (map closer (w ∷ ws)) i + cond (eqb (w .slot) i) 1 0 ≡ waitIn ByTicks 0 (w ∷ ws) i
+first-falls w ws i h =
+    let q = h .0 in
+    cases (eqb (w .slot) i) (λ e. rw e (omega arith)) (λ e. rw e (omega (arith, wait-closer (w .wait) ws i (h .0) (h .1))))
+
+-- ---- the table with that word
+
+module _ (t : List ℕ) (s : State) (h : Holds t s) (w : Link) (ws : List Link) (whole : s .ticking ≡ w ∷ ws) (ones : All (λ v. 1 ≤ v .wait) (s .ticking))
+    (low : 1 ≤ w .slot) (high : w .slot ≤ length (s .slots)) (u : List ℕ) (is : u ≡ set t (2 + 8 * w .slot + 3) (field t 3 (w .slot) - 1)) where
+  old : Spelled t s
+  old = holds-spelled t s h
+
+  other-word : (m : ℕ) → m ≢ 2 + 8 * w .slot + 3 → word u m ≡ word t m
+  other-word m n = ap (λ (v : List ℕ). word v m) is ∙ getD-set-other t (2 + 8 * w .slot + 3) m (field t 3 (w .slot) - 1) 0 n
+
+  own-word : field u 3 (w .slot) ≡ field t 3 (w .slot) - 1
+  own-word =
+      ap (λ (v : List ℕ). field v 3 (w .slot)) is
+      ∙ getD-set-same t (2 + 8 * w .slot + 3) (field t 3 (w .slot) - 1) 0 (omega (arith, h .long))
+
+  falls : (i : ℕ) → waitIn ByTicks 0 (map closer (s .ticking)) i + cond (eqb (w .slot) i) 1 0 ≡ waitIn ByTicks 0 (s .ticking) i
+  falls i =
+      ap (λ (c : List Link). waitIn ByTicks 0 (map closer c) i + cond (eqb (w .slot) i) 1 0) whole
+      ∙ first-falls w ws i (subst (All (λ v. 1 ≤ v .wait)) whole ones) ∙ ap (λ (c : List Link). waitIn ByTicks 0 c i) (sym whole)
+
+  spelled : Spelled u (nearer s)
+  spelled = record {
+    heads = λ m p. other-word m (omega arith) ∙ old .heads m p ∙ ap (λ (l : List ℕ). getD l m 0) (sym same-heads);
+    body = λ i f p a b. body i a b f p;
+  }
+    where
+      same-heads : headWords (nearer s) ≡ headWords s
+      same-heads = rw (first-closer (s .ticking))
+
+      waits : (i : ℕ) → 0 < i → i ≤ length (s .slots)
+          → field u 3 i ≡ waitIn ByTicks 0 (map closer (s .ticking)) i + waitIn ByDate 0 (s .dated) i
+      waits i a b =
+          cases (eqb (w .slot) i)
+          (λ e.
+          let q = eqb-true (w .slot) i e in
+          let now : field u 3 i ≡ field t 3 i - 1 = subst (λ (j : ℕ). field u 3 j ≡ field t 3 j - 1) q own-word in
+          let less : waitIn ByTicks 0 (map closer (s .ticking)) i + 1 ≡ waitIn ByTicks 0 (s .ticking) i = rw e at (falls i) in
+          omega (arith, old .body i 3 (omega arith) a b))
+          (λ e.
+          let q = eqb-false (w .slot) i e in
+          let same : waitIn ByTicks 0 (map closer (s .ticking)) i + 0 ≡ waitIn ByTicks 0 (s .ticking) i = rw e at (falls i) in
+          omega (arith, other-word (2 + 8 * i + 3) (omega arith), old .body i 3 (omega arith) a b))
+
+      body : (i : ℕ) → 0 < i → i ≤ length (s .slots) → (f : ℕ) → f < 8
+          → field u f i ≡ getD (slotWords (nearer s) i (slotAt (s .slots) i) []) f 0
+      body i a b =
+          let stays : (f : ℕ) → f < 8 → f ≢ 3 → field u f i ≡ getD (slotWords s i (slotAt (s .slots) i) []) f 0 =
+          λ f p n. other-word (2 + 8 * i + f) (omega arith) ∙ old .body i f p a b in
+          each-at (λ f n. field u f i ≡ n) 0 (slotWords (nearer s) i (slotAt (s .slots) i) []) (
+          stays 0 (omega arith) (omega arith)
+          & stays 1 (omega arith) (omega arith)
+          & stays 2 (omega arith) (omega arith)
+          & waits i a b
+          & stays 4 (omega arith) (omega arith)
+          & stays 5 (omega arith) (omega arith)
+          & (stays 6 (omega arith) (omega arith) ∙ ap (λ (n : ℕ). n + nextIn (s .dated) i) (sym (next-closer (s .ticking) i)))
+          & (stays 7 (omega arith) (omega arith) ∙ ap (λ (n : ℕ). n + previousIn 0 (s .dated) i) (sym (previous-closer 0 (s .ticking) i)))
+          & end)
+
+  lowered : u ≡ over (nearer s) t
+  lowered =
+      let m = 10 + 8 * length (s .slots) in
+      let same : length u ≡ length t = ap length is ∙ length-set t (2 + 8 * w .slot + 3) (field t 3 (w .slot) - 1) in
+      sym (spelled-over u (nearer s) spelled (omega (arith, h .long)))
+      ∙ ap (λ (v : List ℕ). over (nearer s) v) is
+      ∙ ap (write (nearer s)) (drop-set-lt m t (2 + 8 * w .slot + 3) (field t 3 (w .slot) - 1) (omega arith))
+
+-- ---- a sound table
+
+module _ (t : List ℕ) (ok : sound t ≡ true) where
+  pub nearer-none : word t 5 ≡ 0 → t ≡ over (nearer (read t)) t
+  nearer-none e =
+      sym (ap (λ (c : List Link). over (record { room = read t .room; slots = read t .slots; clock = read t .clock; ticking = c; dated = read t .dated }) t)
+      (ap (map closer) none ∙ sym none) ∙ sound-holds t ok .is)
+    where
+      none : read t .ticking ≡ []
+      none = no-front ByTicks (sound-holds t ok) refl e
+
+  module _ {i : ℕ} (a : Front ByTicks t i) where
+    pub first-waits : 1 ≤ field t 3 i
+    first-waits = omega (arith, a .wait, subst (All (λ v. 1 ≤ v .wait)) (a .whole) (sound-well-formed t ok .ticks) .0)
+
+    pub nearer-some : {u : List ℕ} → u ≡ set t (2 + 8 * i + 3) (field t 3 i - 1) → u ≡ over (nearer (read t)) t
+    nearer-some {u} e =
+        lowered t (read t) (sound-holds t ok) (a .entry) (a .back) (a .whole) (sound-well-formed t ok .ticks)
+        (omega (arith, a .low, a .slot)) (omega (arith, a .high, a .slot)) u
+        (e ∙ ap (λ (j : ℕ). set t (2 + 8 * j + 3) (field t 3 j - 1)) (a .slot))

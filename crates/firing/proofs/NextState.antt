@@ -1,0 +1,43 @@
+-- A state written over a table is read back from it, so that steps of the code, each of which leaves one, follow one another: the last is
+-- written over the table of the start. Assumes nothing.
+use mathlib.Core.Path.{_≡_, sym, ap, _∙_, subst}
+use Prim.Native.Nat.{ℕ}
+use mathlib.Core.List.{List}
+use lib.ListN.{length}
+use Rattle.model.specs.declared.Chain.{Chain}
+use Rattle.model.specs.State.{State}
+use Rattle.model.specs.Directives.{fire}
+use Rattle.model.specs.Words.{read, over}
+use Rattle.model.proofs.WellFormed.{Chained, Holds}
+use Rattle.model.proofs.ReadBack.{read-back, over-over, over-holds}
+use Rattle.model.proofs.Steps.{length-fire, room-fire, chained-fire}
+use Rattle.firing.specs.Lists.{Fires}
+
+-- the words u are those of s written over t
+pub record Next (t : List ℕ) (s : State) (u : List ℕ) : Type 0 where
+  pub is : u ≡ over s t
+  pub holds : Holds u s
+
+pub next-start : {t : List ℕ} → Holds t (read t) → Next t (read t) t
+next-start h = record { is = sym (h .is); holds = h }
+
+module _ {t : List ℕ} {s : State} {u : List ℕ} (x : Next t s u) where
+  pub next-read : read u ≡ s
+  next-read = read-back u s (x .holds)
+
+  pub next-holds : Holds u (read u)
+  next-holds = subst (Holds u) (sym next-read) (x .holds)
+
+  -- one step more, which leaves f of the state: the chains stay in order, and there are as many slots
+  pub next-then : (f : State → State) → Chained (f s) → length (f s .slots) ≡ length (s .slots) → f s .room ≡ s .room
+      → {v : List ℕ} → v ≡ over (f (read u)) u → Next t (f s) v
+  next-then f c e r {v} is =
+      let at : v ≡ over (f s) u = is ∙ ap (λ (z : State). over (f z) u) next-read in
+      record {
+        is = at ∙ ap (over (f s)) (x .is) ∙ over-over s (f s) t e;
+        holds = subst (λ (w : List ℕ). Holds w (f s)) (sym at) (over-holds u s (f s) (x .holds) c e r);
+      }
+
+  pub next-fires : {k : Chain} {limit : ℕ} {l l′ : List ℕ} {n m : ℕ} {v : List ℕ} → Fires k u l limit n m v l′ → Next t (fire k limit s) v
+  next-fires {k} {limit} f =
+      next-then (fire k limit) (chained-fire k limit s (x .holds .chained)) (length-fire k limit s) (room-fire k limit s) (f .table)

@@ -1,0 +1,53 @@
+-- `firing::fire_one` meets its contract: routine and user data are read before the timer stops. Assumes nothing.
+use native.Mathlib.Omega.{arith}
+use borrow.Author.Needs.{needs}
+use Rattle.model.proofs.ReadBack.{slots-length}
+use Rattle.firing.proofs.fire_one.Statement.{statement}
+use Rattle.firing.proofs.fire_one.Tie as tie
+
+get-requires : tie.Need-get-requires
+get-requires c κs =
+    let in-table = c .before .before .before .pre .0 in
+    (omega arith, omega (arith, in-table .holds .long, slots-length (c .before .before .before .args .t .now)))
+
+get-requires-2 : tie.Need-get-requires-2
+get-requires-2 c κs =
+    let entry = c .before .before .before .before .before in
+    (omega arith, omega (arith, entry .pre .0 .holds .long, slots-length (entry .args .t .now)))
+
+add-put-entry : tie.Need-add-put-entry
+add-put-entry c =
+    let entry = c .before .before .before .before .before .before .before in
+    omega (arith, entry .pre .0 .holds .chained .few, slots-length (entry .args .t .now))
+
+put-entry-requires : tie.Need-put-entry-requires
+put-entry-requires c κs = search needs
+
+stop-requires : tie.Need-stop-requires
+stop-requires c κs = search needs
+
+same-length : tie.Need-same-length
+same-length c = search needs
+
+same-length-2 : tie.Need-same-length-2
+same-length-2 c = search needs
+
+returns : tie.Need-returns
+returns c =
+    let listing = c .before .before .before .before .before .before in (
+      c .before .before .stop .ensures,
+      rw (← listing .before .before .before .before .get .ensures, ← listing .before .before .get2 .ensures) (listing .put-entry .ensures),
+    )
+
+pub fire-one-spec : {M : Type 1} → statement M
+fire-one-spec =
+    tie.close
+    (tie.spec
+    get-requires
+    get-requires-2
+    add-put-entry
+    put-entry-requires
+    stop-requires
+    same-length
+    same-length-2
+    returns)

@@ -1,0 +1,24 @@
+-- What firing does to the table and to the fired list, as the functions of this crate promise it. Assumes nothing: these are definitions.
+use mathlib.Core.Path.{_≡_}
+use Prim.Native.Nat.{ℕ, _+_, _*_, _≤_, _<_}
+use mathlib.Core.List.{List, map}
+use lib.ListN.{length}
+use lib.Seq.{sets}
+use Rattle.model.specs.declared.Chain.{Chain}
+use Rattle.model.specs.State.{State, listed}
+use Rattle.model.specs.Directives.{due, fire}
+use Rattle.model.specs.Words.{read, over}
+use Rattle.model.specs.Outcome.{entryWords}
+use Rattle.model.proofs.WellFormed.{Holds}
+
+-- the chains are in order, and the list has room for those due, written from entry `from` on
+pub record Room (k : Chain) (t list : List ℕ) (limit from : ℕ) : Type 0 where
+  pub holds : Holds t (read t)
+  pub fits : 3 * (from + length (due k limit (read t))) ≤ length list
+  pub few : from + length (due k limit (read t)) < 256
+
+-- they fired: how many entries there are now, the table, and the list
+pub record Fires (k : Chain) (t list : List ℕ) (limit from number : ℕ) (t′ list′ : List ℕ) : Type 0 where
+  pub count : number ≡ from + length (due k limit (read t))
+  pub table : t′ ≡ over (fire k limit (read t)) t
+  pub entries : list′ ≡ sets list (3 * from) (entryWords (map (listed (read t .slots)) (due k limit (read t))))

@@ -1,0 +1,113 @@
+-- `links::ticks_to` meets its contract: the slot before is nearer to the chain's start, and its ticks left and the slot's wait are the
+-- slot's ticks left. The measure is the slot's position in the chain. Assumes nothing.
+use mathlib.Core.Path.{subst}
+use Prim.Native.Nat.{ℕ, _+_, _*_, _<_}
+use native.Mathlib.Omega.{arith}
+use borrow.Fn.Kinds.{In}
+use borrow.Fn.PlainCycle.{Measures, is, falls, and}
+use Rattle.model.specs.Words.{field, read}
+use Rattle.links.proofs.Positions.{position}
+use Rattle.links.proofs.Back.{none-before, before}
+use Rattle.links.proofs.ticks_to.Reads as ticks-to
+use Rattle.links.proofs.ticks_to.Kinds as ticks-to-kinds
+use Rattle.links.proofs.+ticks_to.Lts-ticks_to as ticks-to-lts
+use Rattle.table.proofs.get.Reads as get-reads
+use Rattle.links.proofs.+ticks_to.{statement}
+use Rattle.links.proofs.+ticks_to.Tie.{close}
+
+abbrev μ-ticks-to : Measures 1 ticks-to-kinds.ps ℕ
+μ-ticks-to κs a = position (a .1 .0) (read (a .0 .now) .ticking)
+
+abbrev ticks-to-at : ℕ → In 1 ticks-to-kinds.ps
+ticks-to-at t = and 1 ticks-to-kinds.ps (is 1 ticks-to-kinds.ps μ-ticks-to t) ticks-to.Pre
+
+abbrev ticks-to-below : ℕ → In 1 ticks-to-kinds.ps
+ticks-to-below t =
+    and 1 ticks-to-kinds.ps (falls 1 ticks-to-kinds.ps _<_ μ-ticks-to t) ticks-to.Pre
+
+ticks-to-returns : (t : ℕ) → ticks-to-lts.Need-returns (
+  get-reads.Asked,
+  get-reads.Learnt,
+  ticks-to-below t,
+  ticks-to.Post,
+) (ticks-to-at t) ticks-to.Post
+ticks-to-returns t c =
+    let s = c .before .before in
+    none-before (s .args .t .now) (s .pre .1 .0) (s .args .i) (c .if1 .taken)
+
+ticks-to-get-requires : (t : ℕ) → ticks-to-lts.Need-get-requires (
+  get-reads.Asked,
+  get-reads.Learnt,
+  ticks-to-below t,
+  ticks-to.Post,
+) (ticks-to-at t) ticks-to.Post
+ticks-to-get-requires t c κs =
+    let s = c .before .before in
+    (omega arith, before (s .args .t .now) (s .args .i) (s .pre .1) (c .if1 .left) .inside)
+
+ticks-to-ticks-to-requires : (t : ℕ) → ticks-to-lts.Need-ticks-to-requires (
+  get-reads.Asked,
+  get-reads.Learnt,
+  ticks-to-below t,
+  ticks-to.Post,
+) (ticks-to-at t) ticks-to.Post
+ticks-to-ticks-to-requires t c κs =
+    let s = c .before .before .before in
+    let b = before (s .args .t .now) (s .args .i) (s .pre .1) (c .before .if1 .left) in
+    rw (c .get .ensures) (
+      subst (λ (j : ℕ). position (field (s .args .t .now) 7 (s .args .i)) (read (s .args .t .now) .ticking) < j) (s .pre .0) (b .less),
+      (s .pre .1 .0, b .there),
+    )
+
+ticks-to-get-requires-2 : (t : ℕ) → ticks-to-lts.Need-get-requires-2 (
+  get-reads.Asked,
+  get-reads.Learnt,
+  ticks-to-below t,
+  ticks-to.Post,
+) (ticks-to-at t) ticks-to.Post
+ticks-to-get-requires-2 t c κs =
+    let d = c .before .before in
+    let s = d .before .before in
+    (omega arith, before (s .args .t .now) (s .args .i) (s .pre .1) (d .if1 .left) .inside)
+
+ticks-to-add-result : (t : ℕ) → ticks-to-lts.Need-add-result (
+  get-reads.Asked,
+  get-reads.Learnt,
+  ticks-to-below t,
+  ticks-to.Post,
+) (ticks-to-at t) ticks-to.Post
+ticks-to-add-result t c =
+    let d = c .before .before .before in
+    let s = d .before .before in
+    let b = before (s .args .t .now) (s .args .i) (s .pre .1) (d .if1 .left) in
+    let e = rw (c .before .before .get .ensures) at (c .before .ticks-to .ensures) in
+    omega (arith, b .sum, b .fits, e, c .get2 .ensures, d .before .shared-slice-known .given (2 + 8 * (s .args .i) + 2) .fits)
+
+ticks-to-returns-2 : (t : ℕ) → ticks-to-lts.Need-returns-2 (
+  get-reads.Asked,
+  get-reads.Learnt,
+  ticks-to-below t,
+  ticks-to.Post,
+) (ticks-to-at t) ticks-to.Post
+ticks-to-returns-2 t c =
+    let d = c .before .before .before in
+    let s = d .before .before in
+    let b = before (s .args .t .now) (s .args .i) (s .pre .1) (d .if1 .left) in
+    let e = rw (c .before .before .get .ensures) at (c .before .ticks-to .ensures) in
+    omega (arith, b .sum, e, c .get2 .ensures)
+
+pub +ticks-to-spec : {M : Type 1} → statement M
++ticks-to-spec = close μ-ticks-to λ t. ticks-to-lts.spec (
+  get-reads.Asked,
+  get-reads.Learnt,
+  ticks-to-below t,
+  ticks-to.Post,
+)
+    (ticks-to-at t)
+    ticks-to.Post
+    (ticks-to-returns t)
+    (ticks-to-get-requires t)
+    (ticks-to-ticks-to-requires t)
+    (ticks-to-get-requires-2 t)
+    (ticks-to-add-result t)
+    (ticks-to-returns-2 t)

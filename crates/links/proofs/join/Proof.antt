@@ -1,0 +1,26 @@
+-- `links::join` meets its contract, by its two cases. Assumes nothing.
+use borrow.Author.Needs.{needs}
+use Rattle.links.proofs.Surgery.{joined-none, joined-some}
+use Rattle.links.proofs.join.Statement.{statement}
+use Rattle.links.proofs.join.Tie as tie
+
+returns : tie.Need-returns
+returns c = let a = c .before .before .args in rw (joined-none (a .t .now) (a .n) (a .q) (a .v) (c .if1 .taken))
+
+put-requires : tie.Need-put-requires
+put-requires c κs = search needs
+
+put-requires-2 : tie.Need-put-requires-2
+put-requires-2 c κs = search needs
+
+same-length : tie.Need-same-length
+same-length c = search needs
+
+returns-2 : tie.Need-returns-2
+returns-2 c =
+    let some = c .before .before .before .before .before .before .before .before in
+    let a = some .before .before .args in
+    cc (joined-some (a .t .now) (a .n) (a .q) (a .v) (some .if1 .left))
+
+pub join-spec : {M : Type 1} → statement M
+join-spec = tie.close (tie.spec returns put-requires put-requires-2 same-length returns-2)

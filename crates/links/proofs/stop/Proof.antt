@@ -1,0 +1,86 @@
+-- `links::stop` meets its contract: a waiting timer is cut out of its chain, and any other is stopped already. Assumes nothing.
+use mathlib.Core.Path.{sym, _∙_}
+use native.Mathlib.Omega.{arith}
+use Rattle.model.specs.declared.Chain.the-variants.{ByTicks, ByDate}
+use Rattle.links.proofs.Cutting.{waits-none, in-words, cuttable, stop-waiting, stop-idle}
+use borrow.Author.Needs.{needs}
+use Rattle.links.proofs.stop.Statement.{statement}
+use Rattle.links.proofs.stop.Tie as tie
+
+get-requires : tie.Need-get-requires
+get-requires c κs =
+    let start = c .before .before in (omega arith, in-words (start .args .t .now) (start .args .i) (start .pre))
+
+cut-requires : tie.Need-cut-requires
+cut-requires c κs =
+    let asked = c .before .before in
+    let start = asked .before .before .before in
+    cuttable (start .args .t .now) (start .args .i) (start .pre) ByTicks (sym (asked .get .ensures) ∙ c .before .if1 .taken)
+    (λ m. asked .before .before .slice-known .given m .fits)
+
+put-requires : tie.Need-put-requires
+put-requires c κs =
+    let done = c .before .before .before in
+    let start = done .before .before .before .before .before .before in
+    (omega arith, omega (arith, done .cut .kept, in-words (start .args .t .now) (start .args .i) (start .pre)))
+
+same-length : tie.Need-same-length
+same-length c = search needs
+
+returns : tie.Need-returns
+returns c =
+    let done = c .before .before .before .before .before .before in
+    let asked = done .before .before .before in
+    let start = asked .before .before .before in
+    c .before .before .put .ensures ∙ (rw (done .cut .ensures)
+    (stop-waiting (start .args .t .now) (start .args .i) (start .pre) ByTicks (sym (asked .get .ensures) ∙ done .before .before .if1 .taken)))
+
+cut-requires-2 : tie.Need-cut-requires-2
+cut-requires-2 c κs =
+    let asked = c .before .before .before in
+    let start = asked .before .before .before in
+    cuttable (start .args .t .now) (start .args .i) (start .pre) ByDate (sym (asked .get .ensures) ∙ c .before .if2 .taken)
+    (λ m. asked .before .before .slice-known .given m .fits)
+
+put-requires-2 : tie.Need-put-requires-2
+put-requires-2 c κs =
+    let done = c .before .before .before in
+    let start = done .before .before .before .before .before .before .before in
+    (omega arith, omega (arith, done .cut2 .kept, in-words (start .args .t .now) (start .args .i) (start .pre)))
+
+same-length-2 : tie.Need-same-length-2
+same-length-2 c = search needs
+
+returns-2 : tie.Need-returns-2
+returns-2 c =
+    let done = c .before .before .before .before .before .before in
+    let asked = done .before .before .before .before in
+    let start = asked .before .before .before in
+    c .before .before .put2 .ensures ∙ (rw (done .cut2 .ensures)
+    (stop-waiting (start .args .t .now) (start .args .i) (start .pre) ByDate (sym (asked .get .ensures) ∙ done .before .before .if2 .taken)))
+
+same-length-3 : tie.Need-same-length-3
+same-length-3 c = search needs
+
+returns-3 : tie.Need-returns-3
+returns-3 c =
+    let asked = c .before .before in
+    let start = asked .before .before .before in
+    stop-idle (start .args .t .now) (start .args .i) (start .pre)
+    (rw (asked .get .ensures) at (waits-none (asked .get .result) (c .before .if1 .left) (c .if2 .left)))
+
+pub stop-spec : {M : Type 1} → statement M
+stop-spec =
+    tie.close
+    (tie.spec
+    get-requires
+    cut-requires
+    put-requires
+    same-length
+    returns
+    cut-requires-2
+    put-requires-2
+    same-length-2
+    returns-2
+    same-length-3
+    returns-3)

@@ -1,0 +1,24 @@
+-- `links::thread` meets its contract: its three stores in order. Assumes nothing.
+use Rattle.links.specs.Surgery.{threaded}
+use borrow.Author.Needs.{needs}
+use Rattle.links.proofs.thread.Statement.{statement}
+use Rattle.links.proofs.thread.Tie as tie
+
+put-requires : tie.Need-put-requires
+put-requires c κs = search needs
+
+put-requires-2 : tie.Need-put-requires-2
+put-requires-2 c κs = search needs
+
+put-requires-3 : tie.Need-put-requires-3
+put-requires-3 c κs = search needs
+
+same-length : tie.Need-same-length
+same-length c = search needs
+
+returns : tie.Need-returns
+unfolding threaded
+returns c = cc
+
+pub thread-spec : {M : Type 1} → statement M
+thread-spec = tie.close (tie.spec put-requires put-requires-2 put-requires-3 same-length returns)

@@ -1,0 +1,45 @@
+-- Where a timer goes in a chain, and what the functions of this crate ask of a table. Assumes nothing: these are definitions.
+use Prim.Native.Nat.{ℕ, _≤_}
+use mathlib.Core.Path.{_≡_}
+use mathlib.Core.Bool.{false, cond}
+use mathlib.Core.List.{List, [], _∷_}
+use lib.Dec.{leb}
+use Rattle.model.specs.declared.Chain.{Chain}
+use Rattle.model.specs.Kinds.{waitsIn}
+use Rattle.model.specs.State.{Link, State, chainOf}
+use Rattle.model.specs.Words.{word, field, read, difference}
+use Rattle.model.proofs.WellFormed.{Holds}
+
+-- the first links of a chain, whose wait is not above n, and the others
+abbrev pub upTo : ℕ → List Link → List Link
+upTo n [] = []
+upTo n (w ∷ ws) = cond (leb (w .wait) n) (w ∷ upTo n ws) []
+
+abbrev pub beyond : ℕ → List Link → List Link
+beyond n [] = []
+beyond n (w ∷ ws) = cond (leb (w .wait) n) (beyond n ws) (w ∷ ws)
+
+-- the slot and the wait of the last link, p and b where there is none
+abbrev pub lastSlot : ℕ → List Link → ℕ
+lastSlot p [] = p
+lastSlot p (w ∷ ws) = lastSlot (w .slot) ws
+
+abbrev pub lastWait : ℕ → List Link → ℕ
+lastWait b [] = b
+lastWait b (w ∷ ws) = lastWait (w .wait) ws
+
+-- the place of a timer of wait n in chain k: the slot before it, and its word
+pub record At (k : Chain) (s : State) (n before wait : ℕ) : Type 0 where
+  pub slot : before ≡ lastSlot 0 (upTo n (chainOf k s))
+  pub word : wait ≡ difference k (lastWait 0 (upTo n (chainOf k s))) n
+
+-- slot i is one of the table's, whose chains are in order
+pub record InTable (t : List ℕ) (i : ℕ) : Type 0 where
+  pub holds : Holds t (read t)
+  pub low : 1 ≤ i
+  pub high : i ≤ word t 0
+
+-- and does not wait
+pub record IdleInTable (t : List ℕ) (i : ℕ) : Type 0 where
+  pub in-table : InTable t i
+  pub idle : (k : Chain) → waitsIn k (field t 0 i) ≡ false

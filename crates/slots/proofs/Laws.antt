@@ -1,0 +1,136 @@
+-- A search over the words of the slots is the model's search over the slots; an id names a slot where three tests pass. Assumes nothing.
+use mathlib.Core.Path.{_≡_, refl, sym, ap, _∙_}
+use Prim.Native.Nat.{ℕ, zero, suc, _+_, _-_, _≤_, _<_}
+use native.Mathlib.Numerals.{add-one}
+use native.Mathlib.Omega.{arith}
+use mathlib.Core.Bool.{Bool, true, false, cond}
+use mathlib.Core.List.{List, [], _∷_, _++_, append-assoc}
+use lib.ListN.{length, getD, set, drop, replicate, length-replicate, replicate-append-replicate, length-drop, length-append}
+use lib.Seq.{set-at, drop-cons}
+use lib.Dec.{eqb}
+use borrow.Author.Tests.{eq-eqb, ne-eqb}
+use Rattle.model.specs.State.{Slot, slotAt, lowest, idBase, indexOf, names}
+use Rattle.model.specs.Directives.{lowestFree, lowestNamed}
+use Rattle.model.specs.Words.{word, field, read, slotsFrom}
+use Rattle.model.proofs.ListLaws.{cases}
+use Rattle.model.proofs.ReadBack.{slots-length, slot-read}
+use Rattle.model.proofs.Refused.{Named, named, named-true}
+use Rattle.slots.specs.Search.{lowestWith, namedSlot}
+
+-- ---- the lowest slot
+
+module _ (t : List ℕ) where
+  lowest-kind : (v i m : ℕ) → lowest (λ x. eqb (x .kind) v) i (slotsFrom t i m) ≡ lowestWith t 0 v i m
+  unfolding lowestWith
+  lowest-kind v i zero = refl
+  lowest-kind v i (suc m) = ap (λ (n : ℕ). cond (eqb (field t 0 i) v) i n) (lowest-kind v (suc i) m)
+
+  lowest-name : (v i m : ℕ) → lowest (λ x. eqb (x .name) v) i (slotsFrom t i m) ≡ lowestWith t 1 v i m
+  unfolding lowestWith
+  lowest-name v i zero = refl
+  lowest-name v i (suc m) = ap (λ (n : ℕ). cond (eqb (field t 1 i) v) i n) (lowest-name v (suc i) m)
+
+  pub free-found : lowestFree (read t) ≡ lowestWith t 0 0 1 (word t 0)
+  free-found = lowest-kind 0 1 (word t 0)
+
+  pub name-found : (name : ℕ) → lowestNamed (read t) name ≡ lowestWith t 1 name 1 (word t 0)
+  name-found name = lowest-name name 1 (word t 0)
+
+  -- what the loop has yet to look at
+  module _ (f v n i : ℕ) (in-loop : i ≤ n) where
+    left : n + 1 - i ≡ suc (n + 1 - (i + 1))
+    left = omega arith
+
+    pub find-here : field t f i ≡ v → lowestWith t f v i (n + 1 - i) ≡ i
+    unfolding lowestWith
+    find-here e =
+        ap (lowestWith t f v i) left ∙ ap (λ (b : Bool). cond b i (lowestWith t f v (suc i) (n + 1 - (i + 1)))) (eq-eqb (field t f i) v e)
+
+    pub find-on : (field t f i ≡ v → ⊥) → lowestWith t f v i (n + 1 - i) ≡ lowestWith t f v (i + 1) (n + 1 - (i + 1))
+    unfolding lowestWith
+    find-on e =
+        ap (lowestWith t f v i) left ∙ ap (λ (b : Bool). cond b i (lowestWith t f v (suc i) (n + 1 - (i + 1)))) (ne-eqb (field t f i) v e)
+        ∙ ap (λ (k : ℕ). lowestWith t f v k (n + 1 - (i + 1))) (sym (add-one i))
+
+  pub find-start : (f v n : ℕ) → lowestWith t f v 1 n ≡ lowestWith t f v 1 (n + 1 - 1)
+  find-start f v n = ap (lowestWith t f v 1) (let z : n ≡ n + 1 - 1 = omega arith in z)
+
+  pub find-none : (f v n i : ℕ) → n < i → lowestWith t f v i (n + 1 - i) ≡ 0
+  unfolding lowestWith
+  find-none f v n i h = ap (lowestWith t f v i) (let z : n + 1 - i ≡ 0 = omega arith in z) ∙ none i
+    where
+      none : (i : ℕ) → lowestWith t f v i 0 ≡ 0
+      none i = refl
+
+-- ---- ids
+
+module _ (t : List ℕ) (id : ℕ) where
+  not-named : (Named (read t) id → ⊥) → 0 ≡ namedSlot t id
+  unfolding namedSlot
+  not-named n = cases (names (read t) id) (λ e. absurd (n (named (read t) id e))) (λ e. rw e)
+
+  pub id-low : id ≤ idBase → 0 ≡ namedSlot t id
+  id-low h = not-named (λ n. omega (arith, n .low, n .is))
+
+  pub id-high : word t 0 < id - idBase → 0 ≡ namedSlot t id
+  id-high h = not-named (λ n. omega (arith, n .high, slots-length t))
+
+  module _ (above : idBase < id) (within : id - idBase ≤ word t 0) where
+    kind-is : slotAt (read t .slots) (id - idBase) .kind ≡ field t 0 (id - idBase)
+    kind-is = ap (λ (x : Slot). x .kind) (slot-read t (id - idBase) (omega arith) within)
+
+    pub id-free : field t 0 (id - idBase) ≡ 0 → 0 ≡ namedSlot t id
+    id-free e = not-named (λ n. n .alive (kind-is ∙ e))
+
+    pub id-names : (field t 0 (id - idBase) ≡ 0 → ⊥) → id - idBase ≡ namedSlot t id
+    unfolding namedSlot
+    id-names e =
+        sym (ap (λ (b : Bool). cond b (indexOf id) 0)
+        (named-true (read t) id (record { is = omega arith; low = omega arith; high = omega (arith, slots-length t); alive = λ z. e (sym kind-is ∙ z) })))
+
+  -- what a caller learns of the slot
+  pub record IsNamed (i : ℕ) : Type 0 where
+    pub names-one : names (read t) id ≡ true
+    pub index : i ≡ indexOf id
+    pub low : 1 ≤ i
+    pub high : i ≤ word t 0
+
+  pub named-some : (i : ℕ) → i ≡ namedSlot t id → (i ≡ 0 → ⊥) → IsNamed i
+  unfolding namedSlot
+  named-some i e n =
+      cases (names (read t) id)
+      (λ f.
+      let is : i ≡ indexOf id = e ∙ ap (λ (b : Bool). cond b (indexOf id) 0) f in
+      let m = named (read t) id f in
+      record { names-one = f; index = is; low = omega (arith, m .low); high = omega (arith, m .high, slots-length t) })
+      (λ f. absurd (n (e ∙ ap (λ (b : Bool). cond b (indexOf id) 0) f)))
+
+  pub named-none : (i : ℕ) → i ≡ namedSlot t id → i ≡ 0 → names (read t) id ≡ false
+  unfolding namedSlot
+  named-none i e z =
+      cases (names (read t) id)
+      (λ f.
+      let is : i ≡ indexOf id = e ∙ ap (λ (b : Bool). cond b (indexOf id) 0) f in
+      let m = named (read t) id f in
+      absurd (omega (arith, m .low)))
+      (λ f. f)
+
+-- ---- words cleared
+
+pub clear-start : (t : List ℕ) → t ≡ replicate 0 0 ++ drop 0 t
+clear-start t = refl
+
+pub clear-on : (t u : List ℕ) (i : ℕ) → i < length t → u ≡ replicate i 0 ++ drop i t → set u i 0 ≡ replicate (i + 1) 0 ++ drop (i + 1) t
+clear-on t u i h e =
+    ap (λ (l : List ℕ). set l i 0) (e ∙ ap (λ (l : List ℕ). replicate i 0 ++ l) (drop-cons t i 0 h))
+    ∙ set-at (replicate i 0) (getD t i 0) (drop (suc i) t) 0 i (length-replicate i 0)
+    ∙ more
+  where
+    more : replicate i 0 ++ (0 ∷ drop (suc i) t) ≡ replicate (i + 1) 0 ++ drop (i + 1) t
+    more =
+        ap (λ (n : ℕ). replicate i 0 ++ (0 ∷ drop n t)) (sym (add-one i))
+        ∙ sym (append-assoc (replicate i 0) (0 ∷ []) (drop (i + 1) t))
+        ∙ ap (λ (l : List ℕ). l ++ drop (i + 1) t) (replicate-append-replicate i 1 0)
+
+pub clear-length : (t u : List ℕ) (i : ℕ) → i ≤ length t → u ≡ replicate i 0 ++ drop i t → length u ≡ length t
+clear-length t u i h e = ap length e ∙ omega (arith, length-append (replicate i 0) (drop i t), length-replicate {A = ℕ} i 0, length-drop i t)

@@ -1,0 +1,41 @@
+-- `slots::named` meets its contract: an id names a slot where its index is 1 to N and the slot is not free. Assumes nothing.
+use borrow.Author.Needs.{needs}
+use mathlib.Core.Path.{_∙_, sym}
+use native.Mathlib.Omega.{arith}
+use Rattle.model.proofs.SoundHolds.{sound-header}
+use Rattle.slots.proofs.Laws.{id-low, id-high, id-free, id-names}
+use Rattle.slots.proofs.named.Statement.{statement}
+use Rattle.slots.proofs.named.Tie as tie
+
+returns : tie.Need-returns
+returns c = let a = c .before .before .args in id-low (a .t .now) (a .id) (c .if1 .taken)
+
+sub-i : tie.Need-sub-i
+sub-i c = search needs
+
+shared-slice-read-if2 : tie.Need-shared-slice-read-if2
+shared-slice-read-if2 c = let s = c .before .before .before in let h = sound-header (s .args .t .now) (s .pre) in omega arith
+
+returns-2 : tie.Need-returns-2
+returns-2 c = let a = c .before .before .before .before .args in id-high (a .t .now) (a .id) (c .if2 .taken)
+
+get-requires : tie.Need-get-requires
+get-requires c κs =
+    let s = c .before .before .before .before in
+    let h = sound-header (s .args .t .now) (s .pre) in
+    omega arith
+
+returns-3 : tie.Need-returns-3
+returns-3 c =
+    let a = c .before .before .before .before .before .before .args in
+    id-free (a .t .now) (a .id) (omega arith) (omega arith) (sym (c .before .get .ensures) ∙ c .if3 .taken)
+
+returns-4 : tie.Need-returns-4
+returns-4 c =
+    let a = c .before .before .before .before .before .before .args in
+    id-names (a .t .now) (a .id) (omega arith) (omega arith) (λ e. c .if3 .left (c .before .get .ensures ∙ e))
+
+pub named-spec : {M : Type 1} → statement M
+named-spec =
+    tie.close
+    (tie.spec returns sub-i shared-slice-read-if2 returns-2 get-requires returns-3 returns-4)
