@@ -1,0 +1,77 @@
+-- The clock of a sound table, as the calls that ask for it find it. Assumes nothing.
+use mathlib.Core.Path.{_≡_, ap, ap₂, subst}
+use mathlib.Core.Logic.{_≢_}
+use Prim.Native.Nat.{ℕ, _≤_, _<_}
+use native.Mathlib.Omega.{arith}
+use mathlib.Core.Bool.{Bool, true, false, not, _&&_}
+use mathlib.Core.List.{List, [], _∷_}
+use lib.Dec.{ltb}
+use borrow.Author.Tests.{eq-eqb, ne-eqb, le-ltb, lt-ltb}
+use Rattle.calendar.specs.declared.WallTime.{WallTime}
+use Rattle.calendar.specs.declared.Date.{Date}
+use Rattle.calendar.specs.declared.Date.the-variants.{On, PastTheLast}
+use Rattle.calendar.specs.declared.Instant.{Instant}
+use Rattle.calendar.specs.declared.Instant.the-variants.{Second, NotValid}
+use Rattle.calendar.specs.Calendar.{valid, secondsOf, dateOf, instantOf, dateAnswer}
+use Rattle.calendar.proofs.Theorems.{second-answer, not-valid-answer, on-answer, past-answer}
+use Rattle.model.specs.declared.Chain.the-variants.{ByDate}
+use Rattle.model.specs.Lists.{All}
+use Rattle.model.specs.Calls.{setClock}
+use Rattle.model.specs.Directives.{isPast, started, clockMoved, numbers}
+use Rattle.model.specs.Words.{over, word, read}
+use Rattle.model.specs.Sound.{sound}
+use Rattle.model.specs.Outcome.{outcome}
+use Rattle.model.proofs.SoundHolds.{sound-header}
+use Rattle.firing.proofs.Ticks.{Leaves}
+use Rattle.timer.proofs.Replies.{rules, done}
+
+module _ (t : List ℕ) where
+  pub clock-unset : word t 2 ≢ 1 → not (read t .clock .isSet) ≡ true
+  clock-unset n = ap not (ne-eqb (word t 2) 1 n)
+
+  pub clock-running : word t 2 ≡ 1 → not (read t .clock .isSet) ≡ false
+  clock-running e = ap not (eq-eqb (word t 2) 1 e)
+
+  -- the seconds of a sound table are not past the last
+  pub in-calendar : {d : Date} → sound t ≡ true → d ≡ dateAnswer (word t 3) → d ≡ PastTheLast → ⊥
+  in-calendar ok e p = omega (arith, past-answer (word t 3) e p, sound-header t ok .second-high)
+
+  pub time-now : {d : Date} (w : WallTime) → d ≡ dateAnswer (word t 3) → d ≡ On w → numbers w (word t 4) ≡ numbers (dateOf (word t 3)) (word t 4)
+  time-now w e p = ap (λ (x : WallTime). numbers x (word t 4)) (on-answer (word t 3) w e p .is)
+
+  -- ---- fire when
+
+  pub not-a-date : (w : WallTime) {i : Instant} → i ≡ instantOf w → i ≡ NotValid → isPast (read t) w ≡ true
+  not-a-date w e n = ap (λ (b : Bool). not (b && ltb (word t 3) (secondsOf w))) (not-valid-answer w e n)
+
+  pub past-date : (w : WallTime) (s : ℕ) {i : Instant} → i ≡ instantOf w → i ≡ Second s → s ≤ word t 3 → isPast (read t) w ≡ true
+  past-date w s e n h =
+      let a = second-answer w s e n in
+      ap₂ (λ (b c : Bool). not (b && c)) (a .is-valid) (le-ltb (word t 3) (secondsOf w) (omega (arith, a .is)))
+
+  pub later-date : (w : WallTime) (s : ℕ) {i : Instant} → i ≡ instantOf w → i ≡ Second s → word t 3 < s → isPast (read t) w ≡ false
+  later-date w s e n h =
+      let a = second-answer w s e n in
+      ap₂ (λ (b c : Bool). not (b && c)) (a .is-valid) (lt-ltb (word t 3) (secondsOf w) (omega (arith, a .is)))
+
+  pub dated-is : (w : WallTime) (s i k r u : ℕ) {d : Instant} → d ≡ instantOf w → d ≡ Second s → i ≡ k
+      → over (started ByDate (read t) i s 0 r u) t ≡ over (started ByDate (read t) k (secondsOf w) 0 r u) t
+  dated-is w s i k r u e n is = ap₂ (λ (a b : ℕ). over (started ByDate (read t) a b 0 r u) t) is (second-answer w s e n .is)
+
+-- ---- set clock
+
+pub not-valid : (w : WallTime) {i : Instant} → i ≡ instantOf w → i ≡ NotValid → not (valid w) ≡ true
+not-valid w e n = ap not (not-valid-answer w e n)
+
+pub is-valid : (w : WallTime) (s : ℕ) {i : Instant} → i ≡ instantOf w → i ≡ Second s → not (valid w) ≡ false
+is-valid w s e n = ap not (second-answer w s e n .is-valid)
+
+pub second-is : (w : WallTime) (s : ℕ) {i : Instant} → i ≡ instantOf w → i ≡ Second s → s ≡ secondsOf w
+second-is w s e n = second-answer w s e n .is
+
+pub set-clock-done : (t : List ℕ) (w : WallTime) (list : List ℕ) (s m : ℕ) (u list′ : List ℕ) → All (λ r. r .given ≡ false) (rules t (setClock w list))
+    → s ≡ secondsOf w → Leaves t list (clockMoved (read t) s list) m u list′
+    → record { status = 0; answer = m ∷ []; table = u; list = list′ } ≡ outcome t (setClock w list)
+set-clock-done t w list s m u list′ none e l =
+    let k = subst (λ (d : ℕ). Leaves t list (clockMoved (read t) d list) m u list′) e l in
+    done t (setClock w list) (m ∷ []) u list′ none (k .answer) (k .table) (k .entries)

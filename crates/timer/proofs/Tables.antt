@@ -1,0 +1,126 @@
+-- What the calls do to a sound table, from what the steps below them did to it: a slot that an id names, a slot stored, a timer deleted,
+-- a slice laid out. Assumes nothing.
+use mathlib.Core.Path.{_≡_, refl, sym, ap, ap₂, _∙_, subst}
+use Prim.Native.Nat.{ℕ, zero, suc, _+_, _*_, _≤_}
+use native.Mathlib.Omega.{arith}
+use mathlib.Core.Bool.{Bool, true, false, not}
+use mathlib.Core.List.{List, [], _∷_, _++_}
+use lib.ListN.{length, set, drop, replicate}
+use lib.Dec.{eqb}
+use Rattle.model.specs.declared.Chain.the-variants.{ByTicks, ByDate}
+use Rattle.model.specs.State.{Slot, Link, State, rechain, free, slotAt, without, indexOf, names}
+use Rattle.model.specs.Directives.{laidOut, lowestFree, stored, unused, stopped, idled}
+use Rattle.model.specs.Words.{slotWords, allSlots, write, over, word, read}
+use Rattle.model.specs.Sound.{sound}
+use Rattle.model.proofs.WellFormed.{Holds}
+use Rattle.model.proofs.Slots.{put-put}
+use Rattle.model.proofs.Chains.{idle-not-waiting}
+use Rattle.model.proofs.Searches.{found}
+use Rattle.model.proofs.ReadBack.{slots-length, read-back, over-over, over-holds}
+use Rattle.model.proofs.SoundHolds.{sound-holds, sound-header}
+use Rattle.model.proofs.Steps.{chained-stopped, length-stopped, length-stored}
+use Rattle.links.specs.Places.{InTable}
+use Rattle.slots.specs.Search.{lowestWith, namedSlot}
+use Rattle.slots.proofs.Laws.{free-found, named-some, named-none}
+
+-- ---- a slot of a sound table
+
+module _ (t : List ℕ) (ok : sound t ≡ true) where
+  pub inside : (i : ℕ) → i ≤ word t 0 → 8 * i + 10 ≤ length t
+  inside i h = omega (arith, sound-header t ok .long)
+
+  module _ (id i : ℕ) (e : i ≡ namedSlot t id) where
+    pub unknown : i ≡ 0 → not (names (read t) id) ≡ true
+    unknown z = ap not (named-none t id i e z)
+
+    module _ (some : i ≡ 0 → ⊥) where
+      pub known : not (names (read t) id) ≡ false
+      known = ap not (named-some t id i e some .names-one)
+
+      pub index-is : i ≡ indexOf id
+      index-is = named-some t id i e some .index
+
+      pub in-table : InTable t i
+      in-table = let m = named-some t id i e some in record { holds = sound-holds t ok; low = m .low; high = m .high }
+
+      pub named-inside : 8 * i + 10 ≤ length t
+      named-inside = inside i (named-some t id i e some .high)
+
+  -- ---- create
+
+  module _ (i : ℕ) (e : i ≡ lowestWith t 0 0 1 (word t 0)) (some : i ≡ 0 → ⊥) where
+    pub free-in-table : InTable t i
+    free-in-table =
+        let is : lowestFree (read t) ≡ i = free-found t ∙ sym e in
+        let f = found (λ x. eqb (x .kind) 0) (read t .slots) (omega (arith, is, some)) in
+        record { holds = sound-holds t ok; low = omega (arith, some); high = omega (arith, f .high, slots-length t, is) }
+
+    pub created-is : (u : List ℕ) (name : ℕ) → u ≡ over (stored (read t) i (unused name)) t → u ≡ over (stored (read t) (lowestFree (read t)) (unused name)) t
+    created-is u name h = h ∙ ap (λ (k : ℕ). over (stored (read t) k (unused name)) t) (e ∙ sym (free-found t))
+
+  -- ---- delete
+
+  module _ (i : ℕ) (at : InTable t i) (u : List ℕ) (e : u ≡ over (stopped (read t) i (idled (slotAt (read t .slots) i))) t) where
+    x : Slot
+    x = idled (slotAt (read t .slots) i)
+
+    stopped-holds : Holds u (stopped (read t) i (idled (slotAt (read t .slots) i)))
+    stopped-holds =
+        let s = stopped (read t) i (idled (slotAt (read t .slots) i)) in
+        subst (λ (v : List ℕ). Holds v s) (sym e)
+        (over-holds t (read t) s (sound-holds t ok)
+        (chained-stopped (read t) (sound-holds t ok .chained) i (idled (slotAt (read t .slots) i)) (at .low) (omega (arith, at .high, slots-length t))
+        (λ k. idle-not-waiting k (slotAt (read t .slots) i .kind)))
+        (length-stopped (read t) i (idled (slotAt (read t .slots) i))) refl)
+
+    stopped-read : read u ≡ stopped (read t) i (idled (slotAt (read t .slots) i))
+    stopped-read = read-back u (stopped (read t) i (idled (slotAt (read t .slots) i))) stopped-holds
+
+    pub still-in-table : InTable u i
+    still-in-table =
+        let n : word u 0 ≡ word t 0 =
+        sym (slots-length u) ∙ ap (λ (s : State). length (s .slots)) stopped-read
+        ∙ length-stopped (read t) i (idled (slotAt (read t .slots) i)) ∙ slots-length t in
+        record { holds = subst (Holds u) (sym stopped-read) stopped-holds; low = at .low; high = omega (arith, at .high, n) }
+
+    pub deleted-is : (v : List ℕ) → v ≡ over (stored (read u) i free) u → v ≡ over (stopped (read t) i free) t
+    deleted-is v h =
+        let s = stopped (read t) i (idled (slotAt (read t .slots) i)) in
+        h ∙ ap₂ (λ (r : State) (w : List ℕ). over (stored r i free) w) stopped-read e
+        ∙ over-over s (stored s i free) t (length-stored s i free)
+        ∙ ap (λ (sl : List Slot). over (rechain ByTicks (rechain ByDate (read t) sl (without i (read t .dated))) sl (without i (read t .ticking))) t)
+        (put-put (read t .slots) i (idled (slotAt (read t .slots) i)) free)
+
+-- ---- lay out
+
+module _ (room n t : ℕ) (rest : List ℕ) where
+  free-words : (s : State) → s .ticking ≡ [] → s .dated ≡ [] → (i m : ℕ) → allSlots s i (replicate m free) rest ≡ replicate (8 * m) 0 ++ rest
+  free-words s a b i zero = refl
+  free-words s a b i (suc m) =
+      ap₂ (λ (p q : List Link). slotWords (record { room = s .room; slots = s .slots; clock = s .clock; ticking = p; dated = q }) i free (allSlots s (suc i) (replicate m free) rest)) a b
+      ∙ ap {B = List ℕ} (λ (l : List ℕ). 0 ∷ 0 ∷ 0 ∷ 0 ∷ 0 ∷ 0 ∷ 0 ∷ 0 ∷ l) (free-words s a b (suc i) m)
+      ∙ ap (λ (k : ℕ). replicate k 0 ++ rest) eight
+    where
+      eight : suc (suc (suc (suc (suc (suc (suc (suc (8 * m)))))))) ≡ 8 * suc m
+      eight = omega arith
+
+  laid-words : write (laidOut room n t) rest ≡ set (set (replicate (10 + 8 * n) 0 ++ rest) 0 n) 1 t
+  laid-words =
+      ap₂ {C = List ℕ} (λ (k : ℕ) (l : List ℕ). k ∷ t ∷ 0 ∷ 0 ∷ 0 ∷ 0 ∷ 0 ∷ 0 ∷ 0 ∷ 0 ∷ l) (lib.ListN.length-replicate n free) (free-words (laidOut room n t) refl refl 1 n)
+      ∙ ap (λ (k : ℕ). set (set (replicate k 0 ++ rest) 0 n) 1 t) ten
+    where
+      ten : suc (suc (suc (suc (suc (suc (suc (suc (suc (suc (8 * n)))))))))) ≡ 10 + 8 * n
+      ten = omega arith
+
+pub laid-is : (w u : List ℕ) (n t : ℕ) → u ≡ replicate (10 + 8 * n) 0 ++ drop (10 + 8 * n) w → set (set u 0 n) 1 t ≡ over (laidOut (length w) n t) w
+laid-is w u n t e =
+    ap (λ (l : List ℕ). set (set l 0 n) 1 t) e
+    ∙ sym (laid-words (length w) n t (drop (10 + 8 * n) w))
+    ∙ ap (λ (k : ℕ). write (laidOut (length w) n t) (drop (10 + 8 * k) w)) (sym (lib.ListN.length-replicate n free))
+
+-- its limits, as they were tested
+pub outside-limits : {r b : Bool} → r ≡ b → not r ≡ true → not b ≡ true
+outside-limits e n = ap not (sym e) ∙ n
+
+pub inside-limits : {r b : Bool} → r ≡ b → not r ≡ false → not b ≡ false
+inside-limits e n = ap not (sym e) ∙ n

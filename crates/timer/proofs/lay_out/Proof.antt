@@ -1,0 +1,76 @@
+-- `timer::lay_out` meets its contract: the words cleared, with N and T in front, are those of the table laid out. Assumes nothing.
+use borrow.Author.Needs.{needs, below-set}
+use Rattle.slots.proofs.Laws.{clear-length}
+use borrow.Author.Tests.{le-ltb, lt-ltb}
+use mathlib.Core.List.{[], _∷_}
+use mathlib.Core.Path.{refl}
+use Prim.Native.Nat.{ℕ, _+_}
+use native.Mathlib.Omega.{arith}
+use Rattle.model.specs.declared.Status.the-variants.{InvalidSize, InvalidNumber}
+use Rattle.model.specs.Calls.{layOut}
+use Rattle.timer.proofs.Replies.{refuses, done}
+use lib.ListN.{length}
+use Prim.Native.Nat.{_*_}
+use Rattle.timer.proofs.Tables.{outside-limits, inside-limits, laid-is}
+use Rattle.timer.proofs.lay_out.Statement.{statement}
+use Rattle.timer.proofs.lay_out.Tie as tie
+
+within-limits-requires : tie.Need-within-limits-requires
+within-limits-requires c κs = search needs
+
+returns : tie.Need-returns
+returns c =
+    let a = c .before .before .before .args in
+    let t = a .table .now in
+    refuses t (layOut (a .slots) (a .rate)) InvalidNumber 0 tt (outside-limits (c .before .within-limits .ensures) (c .if1 .taken)) refl
+
+mul-words : tie.Need-mul-words
+mul-words c = search needs
+
+add-words : tie.Need-add-words
+add-words c = search needs
+
+returns-2 : tie.Need-returns-2
+returns-2 c =
+    let a = c .before .before .before .before .args in
+    let t = a .table .now in
+    refuses t (layOut (a .slots) (a .rate)) InvalidSize 1 (inside-limits (c .before .before .within-limits .ensures) (c .before .if1 .left), tt)
+    (lt-ltb (length t) (10 + 8 * a .slots) (c .if2 .taken)) refl
+
+clear-requires : tie.Need-clear-requires
+clear-requires c κs = search needs
+
+slice-write-table : tie.Need-slice-write-table
+slice-write-table c = search needs
+
+slice-write-table-2 : tie.Need-slice-write-table-2
+slice-write-table-2 c =
+    let a = c .before .before .before .before .before .before .before .before .args in
+    let u = c .before .before .clear .last .0 in
+    below-set ℕ u 1 0 (a .slots) (omega (arith, clear-length (a .table .now) u (10 + 8 * a .slots) (c .before .before .before .before .if2 .left) (c .before .before .clear .ensures)))
+
+same-length : tie.Need-same-length
+same-length c = search needs
+
+returns-3 : tie.Need-returns-3
+returns-3 c =
+    let a = c .before .before .before .before .before .before .before .before .args in
+    let t = a .table .now in
+    done t (layOut (a .slots) (a .rate)) (0 ∷ []) _ []
+    (inside-limits (c .before .before .before .before .before .before .within-limits .ensures) (c .before .before .before .before .before .if1 .left), (le-ltb (length t) (10 + 8 * a .slots) (c .before .before .before .before .if2 .left), tt)) refl
+    (laid-is t _ (a .slots) (a .rate) (c .before .before .clear .ensures)) refl
+
+pub lay-out-spec : {M : Type 1} → statement M
+lay-out-spec =
+    tie.close
+    (tie.spec
+    within-limits-requires
+    returns
+    mul-words
+    add-words
+    returns-2
+    clear-requires
+    slice-write-table
+    slice-write-table-2
+    same-length
+    returns-3)

@@ -1,0 +1,132 @@
+-- `timer::tick` meets its contract: its four steps, one after the other, are the model's tick. Assumes nothing.
+use borrow.Author.Needs.{needs}
+use mathlib.Core.Path.{refl}
+use native.Mathlib.Omega.{arith}
+use Rattle.model.specs.declared.Status.the-variants.{NotSound, ListTooShort}
+use Rattle.model.specs.Calls.{tick}
+use Rattle.model.proofs.SoundHolds.{sound-header}
+use Rattle.firing.proofs.Ticks.{nearer-room, first-holds, first-into, clock-room, ticked-is}
+use Rattle.timer.proofs.Replies.{refuses, done, unsound, sound-rule, sound-now}
+use Rattle.timer.proofs.Lists.{too-short, long-enough, not-short}
+use Rattle.timer.proofs.tick.Statement.{statement}
+use Rattle.timer.proofs.tick.Tie as tie
+
+is-sound-requires : tie.Need-is-sound-requires
+is-sound-requires c κs = search needs
+
+same-length : tie.Need-same-length
+same-length c = search needs
+
+returns : tie.Need-returns
+returns c =
+    let a = c .before .before .before .before .before .args in
+    let t = a .table .now in
+    refuses t (tick (a .fired .now)) NotSound 0 tt (unsound t _ (c .before .is-sound .ensures) (c .if1 .taken)) refl
+
+slice-read-list-words : tie.Need-slice-read-list-words
+slice-read-list-words c =
+    let a = c .before .before .before .before .before .before .args in
+    let t = a .table .now in
+    let ok = sound-now t _ (c .before .before .is-sound .ensures) (c .before .if1 .left) in
+    let h = sound-header t ok in
+    omega arith
+
+list-words-requires : tie.Need-list-words-requires
+list-words-requires c κs =
+    let a = c .before .before .before .before .before .before .args in
+    let t = a .table .now in
+    let ok = sound-now t _ (c .before .before .is-sound .ensures) (c .before .if1 .left) in
+    let h = sound-header t ok in
+    omega arith
+
+same-length-2 : tie.Need-same-length-2
+same-length-2 c = search needs
+
+returns-2 : tie.Need-returns-2
+returns-2 c =
+    let a = c .before .before .before .before .before .before .before .before .args in
+    let t = a .table .now in
+    let rule = sound-rule t _ (c .before .before .before .before .is-sound .ensures) (c .before .before .before .if1 .left) in
+    refuses t (tick (a .fired .now)) ListTooShort 1 (rule, tt) (too-short t (a .fired .now) _ (c .before .list-words .ensures) (c .if2 .taken)) refl
+
+come-nearer-requires : tie.Need-come-nearer-requires
+come-nearer-requires c κs =
+    let a = c .before .before .before .before .before .before .before .before .before .args in
+    let t = a .table .now in
+    let ok = sound-now t _ (c .before .before .before .before .before .is-sound .ensures) (c .before .before .before .before .if1 .left) in
+    ok
+
+fire-requires : tie.Need-fire-requires
+fire-requires c κs =
+    let a = c .before .before .before .before .before .before .before .before .before .before .before .before .before .before .args in
+    let t = a .table .now in
+    let list = a .fired .now in
+    let ok = sound-now t _ (c .before .before .before .before .before .before .before .before .before .before .is-sound .ensures) (c .before .before .before .before .before .before .before .before .before .if1 .left) in
+    let long = long-enough t list _ (c .before .before .before .before .before .before .before .list-words .ensures) (c .before .before .before .before .before .before .if2 .left) in
+    nearer-room t list ok long (c .before .before .before .before .come-nearer .ensures)
+
+step-clock-requires : tie.Need-step-clock-requires
+step-clock-requires c κs =
+    let a = c .before .before .before .before .before .before .before .before .before .before .before .before .before .before .before .before .before .before .before .before .args in
+    let t = a .table .now in
+    let list = a .fired .now in
+    let ok = sound-now t _ (c .before .before .before .before .before .before .before .before .before .before .before .before .before .before .before .before .is-sound .ensures) (c .before .before .before .before .before .before .before .before .before .before .before .before .before .before .before .if1 .left) in
+    let long = long-enough t list _ (c .before .before .before .before .before .before .before .before .before .before .before .before .before .list-words .ensures) (c .before .before .before .before .before .before .before .before .before .before .before .before .if2 .left) in
+    let e₁ = c .before .before .before .before .before .before .before .before .before .before .come-nearer .ensures in
+    (first-holds t list ok long e₁ (c .before .before .before .before .before .fire .ensures), first-into t list ok long e₁ (c .before .before .before .before .before .fire .ensures))
+
+slice-read-second : tie.Need-slice-read-second
+slice-read-second c =
+    let a = c .before .before .before .before .before .before .before .before .before .before .before .before .before .before .before .before .before .before .before .before .before .before .before .before .args in
+    let t = a .table .now in
+    let list = a .fired .now in
+    let ok = sound-now t _ (c .before .before .before .before .before .before .before .before .before .before .before .before .before .before .before .before .before .before .before .before .is-sound .ensures) (c .before .before .before .before .before .before .before .before .before .before .before .before .before .before .before .before .before .before .before .if1 .left) in
+    let long = long-enough t list _ (c .before .before .before .before .before .before .before .before .before .before .before .before .before .before .before .before .before .list-words .ensures) (c .before .before .before .before .before .before .before .before .before .before .before .before .before .before .before .before .if2 .left) in
+    let room = clock-room t list ok long (c .before .before .before .before .before .before .before .before .before .before .before .before .before .before .come-nearer .ensures) (c .before .before .before .before .before .before .before .before .before .fire .ensures) (c .before .before .before .step-clock .ensures) in
+    omega (arith, room .holds .long)
+
+fire-requires-2 : tie.Need-fire-requires-2
+fire-requires-2 c κs =
+    let a = c .before .before .before .before .before .before .before .before .before .before .before .before .before .before .before .before .before .before .before .before .before .before .before .before .before .before .args in
+    let t = a .table .now in
+    let list = a .fired .now in
+    let ok = sound-now t _ (c .before .before .before .before .before .before .before .before .before .before .before .before .before .before .before .before .before .before .before .before .before .before .is-sound .ensures) (c .before .before .before .before .before .before .before .before .before .before .before .before .before .before .before .before .before .before .before .before .before .if1 .left) in
+    let long = long-enough t list _ (c .before .before .before .before .before .before .before .before .before .before .before .before .before .before .before .before .before .before .before .list-words .ensures) (c .before .before .before .before .before .before .before .before .before .before .before .before .before .before .before .before .before .before .if2 .left) in
+    clock-room t list ok long (c .before .before .before .before .before .before .before .before .before .before .before .before .before .before .before .before .come-nearer .ensures) (c .before .before .before .before .before .before .before .before .before .before .before .fire .ensures) (c .before .before .before .before .before .step-clock .ensures)
+
+same-length-3 : tie.Need-same-length-3
+same-length-3 c = search needs
+
+same-length-4 : tie.Need-same-length-4
+same-length-4 c = search needs
+
+returns-3 : tie.Need-returns-3
+returns-3 c =
+    let a = c .before .before .before .before .before .before .before .before .before .before .before .before .before .before .before .before .before .before .before .before .before .before .before .before .before .before .before .before .before .before .before .args in
+    let t = a .table .now in
+    let list = a .fired .now in
+    let ok = sound-now t _ (c .before .before .before .before .before .before .before .before .before .before .before .before .before .before .before .before .before .before .before .before .before .before .before .before .before .before .before .is-sound .ensures) (c .before .before .before .before .before .before .before .before .before .before .before .before .before .before .before .before .before .before .before .before .before .before .before .before .before .before .if1 .left) in
+    let long = long-enough t list _ (c .before .before .before .before .before .before .before .before .before .before .before .before .before .before .before .before .before .before .before .before .before .before .before .before .list-words .ensures) (c .before .before .before .before .before .before .before .before .before .before .before .before .before .before .before .before .before .before .before .before .before .before .before .if2 .left) in
+    let rule = sound-rule t _ (c .before .before .before .before .before .before .before .before .before .before .before .before .before .before .before .before .before .before .before .before .before .before .before .before .before .before .before .is-sound .ensures) (c .before .before .before .before .before .before .before .before .before .before .before .before .before .before .before .before .before .before .before .before .before .before .before .before .before .before .if1 .left) in
+    let l = ticked-is t list ok long (c .before .before .before .before .before .before .before .before .before .before .before .before .before .before .before .before .before .before .before .before .before .come-nearer .ensures) (c .before .before .before .before .before .before .before .before .before .before .before .before .before .before .before .before .fire .ensures) (c .before .before .before .before .before .before .before .before .before .before .step-clock .ensures) (c .before .before .before .before .fire2 .ensures) in
+    done t (tick list) _ _ _ (rule, (not-short t list long, tt)) (l .answer) (l .table) (l .entries)
+
+pub tick-spec : {M : Type 1} → statement M
+tick-spec =
+    tie.close
+    (tie.spec
+    is-sound-requires
+    same-length
+    returns
+    slice-read-list-words
+    list-words-requires
+    same-length-2
+    returns-2
+    come-nearer-requires
+    fire-requires
+    step-clock-requires
+    slice-read-second
+    fire-requires-2
+    same-length-3
+    same-length-4
+    returns-3)
