@@ -5,7 +5,7 @@ use Prim.Native.Nat.{ℕ, zero, suc, _+_, _*_, _≤_}
 use native.Mathlib.Omega.{arith}
 use mathlib.Core.Bool.{Bool, true, false, not}
 use mathlib.Core.List.{List, [], _∷_, _++_}
-use lib.ListN.{length, set, drop, replicate}
+use lib.ListN.{length, set, drop, replicate, length-replicate}
 use lib.Dec.{eqb}
 use Rattle.model.specs.declared.Chain.the-variants.{ByTicks, ByDate}
 use Rattle.model.specs.State.{Slot, Link, State, rechain, free, slotAt, without, indexOf, names}
@@ -106,7 +106,7 @@ module _ (room n t : ℕ) (rest : List ℕ) where
 
   laid-words : write (laidOut room n t) rest ≡ set (set (replicate (10 + 8 * n) 0 ++ rest) 0 n) 1 t
   laid-words =
-      ap₂ {C = List ℕ} (λ (k : ℕ) (l : List ℕ). k ∷ t ∷ 0 ∷ 0 ∷ 0 ∷ 0 ∷ 0 ∷ 0 ∷ 0 ∷ 0 ∷ l) (lib.ListN.length-replicate n free) (free-words (laidOut room n t) refl refl 1 n)
+      ap₂ {C = List ℕ} (λ (k : ℕ) (l : List ℕ). k ∷ t ∷ 0 ∷ 0 ∷ 0 ∷ 0 ∷ 0 ∷ 0 ∷ 0 ∷ 0 ∷ l) (length-replicate n free) (free-words (laidOut room n t) refl refl 1 n)
       ∙ ap (λ (k : ℕ). set (set (replicate k 0 ++ rest) 0 n) 1 t) ten
     where
       ten : suc (suc (suc (suc (suc (suc (suc (suc (suc (suc (8 * n)))))))))) ≡ 10 + 8 * n
@@ -116,7 +116,7 @@ pub laid-is : (w u : List ℕ) (n t : ℕ) → u ≡ replicate (10 + 8 * n) 0 ++
 laid-is w u n t e =
     ap (λ (l : List ℕ). set (set l 0 n) 1 t) e
     ∙ sym (laid-words (length w) n t (drop (10 + 8 * n) w))
-    ∙ ap (λ (k : ℕ). write (laidOut (length w) n t) (drop (10 + 8 * k) w)) (sym (lib.ListN.length-replicate n free))
+    ∙ ap (λ (k : ℕ). write (laidOut (length w) n t) (drop (10 + 8 * k) w)) (sym (length-replicate n free))
 
 -- its limits, as they were tested
 pub outside-limits : {r b : Bool} → r ≡ b → not r ≡ true → not b ≡ true

@@ -27,26 +27,7 @@ use slots::ID_BASE;
 use slots::clear;
 use slots::find;
 use slots::named;
-use table::CLOCK_SET;
-use table::DATA;
-use table::FREE;
-use table::HEADER;
-use table::IDLE_TICKS;
-use table::INTERVAL;
-use table::KIND;
-use table::MOST_SLOTS;
-use table::MOST_TICKS;
-use table::NAME;
-use table::NEVER_STARTED;
-use table::ROUTINE;
-use table::SECONDS;
-use table::SLOT;
-use table::SLOT_COUNT;
-use table::TICKS;
-use table::TICKS_PER_SECOND;
-use table::WAITING_TICKS;
-use table::get;
-use table::is_sound;
+use table::*;
 
 // What a call answers: done, with the answer's number, or refused.
 pub enum Answer {

@@ -32,16 +32,18 @@ same-length-2 c = search needs
 
 returns-2 : tie.Need-returns-2
 returns-2 c =
-    let a = c .before .before .before .before .before .args in
+    let b = c .before in
+    let a = b .before .before .before .before .args in
     let t = a .table .now in
-    let rule = sound-rule t _ (c .before .before .is-sound .ensures) (c .before .if1 .left) in
+    let rule = sound-rule t _ (b .before .is-sound .ensures) (b .if1 .left) in
     refuses t (create (a .name)) InvalidName 1 (rule, tt) (eq-eqb (a .name) 0 (c .if2 .taken)) refl
 
 find-requires : tie.Need-find-requires
 find-requires c κs =
-    let a = c .before .before .before .before .before .before .args in
+    let b = c .before .before in
+    let a = b .before .before .before .before .args in
     let t = a .table .now in
-    let ok = sound-now t _ (c .before .before .before .is-sound .ensures) (c .before .before .if1 .left) in
+    let ok = sound-now t _ (b .before .is-sound .ensures) (b .if1 .left) in
     (ok, omega arith)
 
 same-length-3 : tie.Need-same-length-3
@@ -49,36 +51,39 @@ same-length-3 c = search needs
 
 returns-3 : tie.Need-returns-3
 returns-3 c =
-    let a = c .before .before .before .before .before .before .before .before .args in
+    let b = c .before .before .before .before in
+    let a = b .before .before .before .before .args in
     let t = a .table .now in
-    let rule = sound-rule t _ (c .before .before .before .before .before .is-sound .ensures) (c .before .before .before .before .if1 .left) in
+    let rule = sound-rule t _ (b .before .is-sound .ensures) (b .if1 .left) in
     refuses t (create (a .name)) TooMany 2 (rule, (ne-eqb (a .name) 0 (c .before .before .before .if2 .left), tt)) (none-free t _ (c .before .find .ensures) (c .if3 .taken)) refl
 
 store-requires : tie.Need-store-requires
 store-requires c κs =
-    let a = c .before .before .before .before .before .before .before .before .before .args in
+    let b = c .before .before .before .before .before in
+    let a = b .before .before .before .before .args in
     let t = a .table .now in
-    let ok = sound-now t _ (c .before .before .before .before .before .before .is-sound .ensures) (c .before .before .before .before .before .if1 .left) in
+    let ok = sound-now t _ (b .before .is-sound .ensures) (b .if1 .left) in
     free-in-table t ok _ (c .before .before .find .ensures) (c .before .if3 .left)
 
 add-t16 : tie.Need-add-t16
 add-t16 c =
-    let a = c .before .before .before .before .before .before .before .before .before .before .before .before .args in
+    let b = c .before .before .before .before .before .before .before .before in
+    let a = b .before .before .before .before .args in
     let t = a .table .now in
-    let ok = sound-now t _ (c .before .before .before .before .before .before .before .before .before .is-sound .ensures) (c .before .before .before .before .before .before .before .before .if1 .left) in
-    omega (arith, free-in-table t ok _ (c .before .before .before .before .before .find .ensures) (c .before .before .before .before .if3 .left) .high, sound-header t ok .few)
+    let ok = sound-now t _ (b .before .is-sound .ensures) (b .if1 .left) in
+    let in-it = free-in-table t ok _ (c .before .before .before .before .before .find .ensures) (c .before .before .before .before .if3 .left) in
+    omega (arith, in-it .high, sound-header t ok .few)
 
 same-length-4 : tie.Need-same-length-4
 same-length-4 c = search needs
 
 returns-4 : tie.Need-returns-4
 returns-4 c =
-    let a = c .before .before .before .before .before .before .before .before .before .before .before .before .args in
+    let b = c .before .before .before .before .before .before .before .before in
+    let a = b .before .before .before .before .args in
     let t = a .table .now in
-    let e = c .before .before .before .before .before .before .before .before .before .is-sound .ensures in
-    let tested = c .before .before .before .before .before .before .before .before .if1 .left in
-    let rule = sound-rule t _ e tested in
-    let ok = sound-now t _ e tested in
+    let rule = sound-rule t _ (b .before .is-sound .ensures) (b .if1 .left) in
+    let ok = sound-now t _ (b .before .is-sound .ensures) (b .if1 .left) in
     let i = c .before .before .before .before .before .find .result in
     let at = c .before .before .before .before .before .find .ensures in
     let some = c .before .before .before .before .if3 .left in

@@ -27,9 +27,10 @@ returns c =
 
 named-requires : tie.Need-named-requires
 named-requires c κs =
-    let a = c .before .before .before .before .before .args in
+    let b = c .before in
+    let a = b .before .before .before .before .args in
     let t = a .table .now in
-    let ok = sound-now t _ (c .before .before .is-sound .ensures) (c .before .if1 .left) in
+    let ok = sound-now t _ (b .before .is-sound .ensures) (b .if1 .left) in
     ok
 
 same-length-2 : tie.Need-same-length-2
@@ -37,29 +38,30 @@ same-length-2 c = search needs
 
 returns-2 : tie.Need-returns-2
 returns-2 c =
-    let a = c .before .before .before .before .before .before .before .args in
+    let b = c .before .before .before in
+    let a = b .before .before .before .before .args in
     let t = a .table .now in
-    let e = c .before .before .before .before .is-sound .ensures in
-    let tested = c .before .before .before .if1 .left in
-    let rule = sound-rule t _ e tested in
-    let ok = sound-now t _ e tested in
+    let rule = sound-rule t _ (b .before .is-sound .ensures) (b .if1 .left) in
+    let ok = sound-now t _ (b .before .is-sound .ensures) (b .if1 .left) in
     let at = c .before .named .ensures in
     refuses t (delete (a .id)) InvalidId 1 (rule, tt) (unknown t ok (a .id) _ at (c .if2 .taken)) refl
 
 stop-requires : tie.Need-stop-requires
 stop-requires c κs =
-    let a = c .before .before .before .before .before .before .before .before .args in
+    let b = c .before .before .before .before in
+    let a = b .before .before .before .before .args in
     let t = a .table .now in
-    let ok = sound-now t _ (c .before .before .before .before .before .is-sound .ensures) (c .before .before .before .before .if1 .left) in
+    let ok = sound-now t _ (b .before .is-sound .ensures) (b .if1 .left) in
     let some = c .before .if2 .left in
     let at = c .before .before .named .ensures in
     in-table t ok (a .id) _ at some
 
 store-requires : tie.Need-store-requires
 store-requires c κs =
-    let a = c .before .before .before .before .before .before .before .before .before .before .before .before .args in
+    let b = c .before .before .before .before .before .before .before .before in
+    let a = b .before .before .before .before .args in
     let t = a .table .now in
-    let ok = sound-now t _ (c .before .before .before .before .before .before .before .before .before .is-sound .ensures) (c .before .before .before .before .before .before .before .before .if1 .left) in
+    let ok = sound-now t _ (b .before .is-sound .ensures) (b .if1 .left) in
     let some = c .before .before .before .before .before .if2 .left in
     let at = c .before .before .before .before .before .before .named .ensures in
     still-in-table t ok _ (in-table t ok (a .id) _ at some) _ (c .before .before .before .stop .ensures)
@@ -69,19 +71,19 @@ same-length-3 c = search needs
 
 returns-3 : tie.Need-returns-3
 returns-3 c =
-    let a = c .before .before .before .before .before .before .before .before .before .before .before .before .before .before .before .args in
+    let b = c .before .before .before .before .before .before .before .before .before .before .before in
+    let a = b .before .before .before .before .args in
     let t = a .table .now in
-    let e = c .before .before .before .before .before .before .before .before .before .before .before .before .is-sound .ensures in
-    let tested = c .before .before .before .before .before .before .before .before .before .before .before .if1 .left in
-    let rule = sound-rule t _ e tested in
-    let ok = sound-now t _ e tested in
+    let rule = sound-rule t _ (b .before .is-sound .ensures) (b .if1 .left) in
+    let ok = sound-now t _ (b .before .is-sound .ensures) (b .if1 .left) in
     let some = c .before .before .before .before .before .before .before .before .if2 .left in
     let at = c .before .before .before .before .before .before .before .before .before .named .ensures in
     let i = c .before .before .before .before .before .before .before .before .before .named .result in
     let in-it = in-table t ok (a .id) i at some in
     let is = index-is t ok (a .id) i at some in
     done t (delete (a .id)) (0 ∷ []) _ [] (rule, (known t ok (a .id) i at some, tt)) refl
-    (deleted-is t ok i in-it _ (c .before .before .before .before .before .before .stop .ensures) _ (c .before .before .store .ensures) ∙ ap (λ (k : ℕ). over (stopped (read t) k free) t) is) refl
+    (deleted-is t ok i in-it _ (c .before .before .before .before .before .before .stop .ensures) _ (c .before .before .store .ensures)
+    ∙ ap (λ (k : ℕ). over (stopped (read t) k free) t) is) refl
 
 pub delete-spec : {M : Type 1} → statement M
 delete-spec =

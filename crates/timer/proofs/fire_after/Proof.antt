@@ -12,6 +12,7 @@ use Rattle.model.specs.Directives.{started}
 use Rattle.model.specs.Words.{read, over}
 use Rattle.timer.proofs.Replies.{refuses, done, unsound, sound-rule, sound-now}
 use Rattle.timer.proofs.Tables.{unknown, known, index-is, in-table}
+use Rattle.timer.proofs.SlotWords.{some-ticks}
 use Rattle.timer.proofs.fire_after.Statement.{statement}
 use Rattle.timer.proofs.fire_after.Tie as tie
 
@@ -32,9 +33,10 @@ same-length-2 c = search needs
 
 returns-2 : tie.Need-returns-2
 returns-2 c =
-    let a = c .before .before .before .before .before .args in
+    let b = c .before in
+    let a = b .before .before .before .before .args in
     let t = a .table .now in
-    let rule = sound-rule t _ (c .before .before .is-sound .ensures) (c .before .if1 .left) in
+    let rule = sound-rule t _ (b .before .is-sound .ensures) (b .if1 .left) in
     refuses t (fireAfter (a .id) (a .ticks) (a .routine) (a .user-data)) InvalidNumber 1 (rule, tt) (eq-eqb (a .ticks) 0 (c .if2 .taken)) refl
 
 same-length-3 : tie.Need-same-length-3
@@ -42,16 +44,19 @@ same-length-3 c = search needs
 
 returns-3 : tie.Need-returns-3
 returns-3 c =
-    let a = c .before .before .before .before .before .before .args in
+    let b = c .before .before in
+    let a = b .before .before .before .before .args in
     let t = a .table .now in
-    let rule = sound-rule t _ (c .before .before .before .is-sound .ensures) (c .before .before .if1 .left) in
-    refuses t (fireAfter (a .id) (a .ticks) (a .routine) (a .user-data)) InvalidAddress 2 (rule, (ne-eqb (a .ticks) 0 (c .before .if2 .left), tt)) (eq-eqb (a .routine) 0 (c .if3 .taken)) refl
+    let rule = sound-rule t _ (b .before .is-sound .ensures) (b .if1 .left) in
+    refuses t (fireAfter (a .id) (a .ticks) (a .routine) (a .user-data)) InvalidAddress 2 (rule, (ne-eqb (a .ticks) 0 (c .before .if2 .left), tt))
+    (eq-eqb (a .routine) 0 (c .if3 .taken)) refl
 
 named-requires : tie.Need-named-requires
 named-requires c κs =
-    let a = c .before .before .before .before .before .before .before .args in
+    let b = c .before .before .before in
+    let a = b .before .before .before .before .args in
     let t = a .table .now in
-    let ok = sound-now t _ (c .before .before .before .before .is-sound .ensures) (c .before .before .before .if1 .left) in
+    let ok = sound-now t _ (b .before .is-sound .ensures) (b .if1 .left) in
     ok
 
 same-length-4 : tie.Need-same-length-4
@@ -59,21 +64,23 @@ same-length-4 c = search needs
 
 returns-4 : tie.Need-returns-4
 returns-4 c =
-    let a = c .before .before .before .before .before .before .before .before .before .args in
+    let b = c .before .before .before .before .before in
+    let a = b .before .before .before .before .args in
     let t = a .table .now in
-    let e = c .before .before .before .before .before .before .is-sound .ensures in
-    let tested = c .before .before .before .before .before .if1 .left in
-    let rule = sound-rule t _ e tested in
-    let ok = sound-now t _ e tested in
+    let rule = sound-rule t _ (b .before .is-sound .ensures) (b .if1 .left) in
+    let ok = sound-now t _ (b .before .is-sound .ensures) (b .if1 .left) in
+    let some-ticks = c .before .before .before .before .if2 .left in
+    let used = c .before .before .before .if3 .left in
     let at = c .before .named .ensures in
     refuses t (fireAfter (a .id) (a .ticks) (a .routine) (a .user-data)) InvalidId 3
-    (rule, (ne-eqb (a .ticks) 0 (c .before .before .before .before .if2 .left), (ne-eqb (a .routine) 0 (c .before .before .before .if3 .left), tt))) (unknown t ok (a .id) _ at (c .if4 .taken)) refl
+    (rule, (ne-eqb (a .ticks) 0 some-ticks, (ne-eqb (a .routine) 0 used, tt))) (unknown t ok (a .id) _ at (c .if4 .taken)) refl
 
 start-requires : tie.Need-start-requires
 start-requires c κs =
-    let a = c .before .before .before .before .before .before .before .before .before .before .args in
+    let b = c .before .before .before .before .before .before in
+    let a = b .before .before .before .before .args in
     let t = a .table .now in
-    let ok = sound-now t _ (c .before .before .before .before .before .before .before .is-sound .ensures) (c .before .before .before .before .before .before .if1 .left) in
+    let ok = sound-now t _ (b .before .is-sound .ensures) (b .if1 .left) in
     let some = c .before .if4 .left in
     let at = c .before .before .named .ensures in
     (in-table t ok (a .id) _ at some, omega arith)
@@ -83,19 +90,21 @@ same-length-5 c = search needs
 
 returns-5 : tie.Need-returns-5
 returns-5 c =
-    let a = c .before .before .before .before .before .before .before .before .before .before .before .before .before .args in
+    let b = c .before .before .before .before .before .before .before .before .before in
+    let a = b .before .before .before .before .args in
     let t = a .table .now in
-    let e = c .before .before .before .before .before .before .before .before .before .before .is-sound .ensures in
-    let tested = c .before .before .before .before .before .before .before .before .before .if1 .left in
-    let rule = sound-rule t _ e tested in
-    let ok = sound-now t _ e tested in
+    let rule = sound-rule t _ (b .before .is-sound .ensures) (b .if1 .left) in
+    let ok = sound-now t _ (b .before .is-sound .ensures) (b .if1 .left) in
     let some = c .before .before .before .before .if4 .left in
     let at = c .before .before .before .before .before .named .ensures in
+    let some-ticks = c .before .before .before .before .before .before .before .before .if2 .left in
+    let used = c .before .before .before .before .before .before .before .if3 .left in
     let i = c .before .before .before .before .before .named .result in
     let is = index-is t ok (a .id) i at some in
     done t (fireAfter (a .id) (a .ticks) (a .routine) (a .user-data)) (0 ∷ []) _ []
-    (rule, (ne-eqb (a .ticks) 0 (c .before .before .before .before .before .before .before .before .if2 .left), (ne-eqb (a .routine) 0 (c .before .before .before .before .before .before .before .if3 .left), (known t ok (a .id) i at some, tt)))) refl
-    (c .before .before .start .ensures ∙ ap (λ (k : ℕ). over (started ByTicks (read t) k (a .ticks) (a .ticks) (a .routine) (a .user-data)) t) is) refl
+    (rule, (ne-eqb (a .ticks) 0 some-ticks, (ne-eqb (a .routine) 0 used, (known t ok (a .id) i at some, tt)))) refl
+    (c .before .before .start .ensures
+    ∙ ap (λ (k : ℕ). over (started ByTicks (read t) k (a .ticks) (a .ticks) (a .routine) (a .user-data)) t) is) refl
 
 pub fire-after-spec : {M : Type 1} → statement M
 fire-after-spec =

@@ -27,9 +27,10 @@ returns c =
 
 slice-read-if2 : tie.Need-slice-read-if2
 slice-read-if2 c =
-    let a = c .before .before .before .before .before .args in
+    let b = c .before in
+    let a = b .before .before .before .before .args in
     let t = a .table .now in
-    let ok = sound-now t _ (c .before .before .is-sound .ensures) (c .before .if1 .left) in
+    let ok = sound-now t _ (b .before .is-sound .ensures) (b .if1 .left) in
     let h = sound-header t ok in
     omega arith
 
@@ -38,9 +39,10 @@ same-length-2 c = search needs
 
 returns-2 : tie.Need-returns-2
 returns-2 c =
-    let a = c .before .before .before .before .before .before .args in
+    let b = c .before .before in
+    let a = b .before .before .before .before .args in
     let t = a .table .now in
-    let rule = sound-rule t _ (c .before .before .before .is-sound .ensures) (c .before .before .if1 .left) in
+    let rule = sound-rule t _ (b .before .is-sound .ensures) (b .if1 .left) in
     refuses t (fireWhen (a .id) (a .when) (a .routine) (a .user-data)) NotDefined 1 (rule, tt) (clock-unset t (c .if2 .taken)) refl
 
 same-length-3 : tie.Need-same-length-3
@@ -48,10 +50,13 @@ same-length-3 c = search needs
 
 returns-3 : tie.Need-returns-3
 returns-3 c =
-    let a = c .before .before .before .before .before .before .before .args in
+    let b = c .before .before .before in
+    let a = b .before .before .before .before .args in
     let t = a .table .now in
-    let rule = sound-rule t _ (c .before .before .before .before .is-sound .ensures) (c .before .before .before .if1 .left) in
-    refuses t (fireWhen (a .id) (a .when) (a .routine) (a .user-data)) InvalidAddress 2 (rule, (clock-running t (c .before .if2 .left), tt)) (eq-eqb (a .routine) 0 (c .if3 .taken)) refl
+    let rule = sound-rule t _ (b .before .is-sound .ensures) (b .if1 .left) in
+    let set = c .before .if2 .left in
+    refuses t (fireWhen (a .id) (a .when) (a .routine) (a .user-data)) InvalidAddress 2 (rule, (clock-running t set, tt))
+    (eq-eqb (a .routine) 0 (c .if3 .taken)) refl
 
 to-seconds-requires : tie.Need-to-seconds-requires
 to-seconds-requires c κs = search needs
@@ -67,17 +72,21 @@ same-length-4 c = search needs
 
 returns-4 : tie.Need-returns-4
 returns-4 c =
-    let a = c .before .before .before .before .before .before .before .before .before .before .args in
+    let b = c .before .before .before .before .before .before in
+    let a = b .before .before .before .before .args in
     let t = a .table .now in
-    let rule = sound-rule t _ (c .before .before .before .before .before .before .before .is-sound .ensures) (c .before .before .before .before .before .before .if1 .left) in
-    refuses t (fireWhen (a .id) (a .when) (a .routine) (a .user-data)) InvalidClock 3 (rule, (clock-running t (c .before .before .before .before .if2 .left), (ne-eqb (a .routine) 0 (c .before .before .before .if3 .left), tt)))
+    let rule = sound-rule t _ (b .before .is-sound .ensures) (b .if1 .left) in
+    let set = c .before .before .before .before .if2 .left in
+    let used = c .before .before .before .if3 .left in
+    refuses t (fireWhen (a .id) (a .when) (a .routine) (a .user-data)) InvalidClock 3 (rule, (clock-running t set, (ne-eqb (a .routine) 0 used, tt)))
     (not-a-date t (a .when) (c .before .before .to-seconds .ensures) (c .enum-told .given .1)) refl
 
 slice-read-if4 : tie.Need-slice-read-if4
 slice-read-if4 c =
-    let a = c .before .before .before .before .before .before .before .before .before .before .before .before .args in
+    let b = c .before .before .before .before .before .before .before .before in
+    let a = b .before .before .before .before .args in
     let t = a .table .now in
-    let ok = sound-now t _ (c .before .before .before .before .before .before .before .before .before .is-sound .ensures) (c .before .before .before .before .before .before .before .before .if1 .left) in
+    let ok = sound-now t _ (b .before .is-sound .ensures) (b .if1 .left) in
     let h = sound-header t ok in
     omega arith
 
@@ -86,17 +95,23 @@ same-length-5 c = search needs
 
 returns-5 : tie.Need-returns-5
 returns-5 c =
-    let a = c .before .before .before .before .before .before .before .before .before .before .before .before .before .args in
+    let b = c .before .before .before .before .before .before .before .before .before in
+    let a = b .before .before .before .before .args in
     let t = a .table .now in
-    let rule = sound-rule t _ (c .before .before .before .before .before .before .before .before .before .before .is-sound .ensures) (c .before .before .before .before .before .before .before .before .before .if1 .left) in
-    refuses t (fireWhen (a .id) (a .when) (a .routine) (a .user-data)) InvalidClock 3 (rule, (clock-running t (c .before .before .before .before .before .before .before .if2 .left), (ne-eqb (a .routine) 0 (c .before .before .before .before .before .before .if3 .left), tt)))
-    (past-date t (a .when) _ (c .before .before .before .before .before .to-seconds .ensures) (c .before .before .before .date .given .1) (c .if4 .taken)) refl
+    let rule = sound-rule t _ (b .before .is-sound .ensures) (b .if1 .left) in
+    let set = c .before .before .before .before .before .before .before .if2 .left in
+    let used = c .before .before .before .before .before .before .if3 .left in
+    let to = c .before .before .before .before .before .to-seconds .ensures in
+    let got = c .before .before .before .date .given .1 in
+    refuses t (fireWhen (a .id) (a .when) (a .routine) (a .user-data)) InvalidClock 3 (rule, (clock-running t set, (ne-eqb (a .routine) 0 used, tt)))
+    (past-date t (a .when) _ to got (c .if4 .taken)) refl
 
 named-requires : tie.Need-named-requires
 named-requires c κs =
-    let a = c .before .before .before .before .before .before .before .before .before .before .before .before .before .before .args in
+    let b = c .before .before .before .before .before .before .before .before .before .before in
+    let a = b .before .before .before .before .args in
     let t = a .table .now in
-    let ok = sound-now t _ (c .before .before .before .before .before .before .before .before .before .before .before .is-sound .ensures) (c .before .before .before .before .before .before .before .before .before .before .if1 .left) in
+    let ok = sound-now t _ (b .before .is-sound .ensures) (b .if1 .left) in
     ok
 
 same-length-6 : tie.Need-same-length-6
@@ -104,22 +119,27 @@ same-length-6 c = search needs
 
 returns-6 : tie.Need-returns-6
 returns-6 c =
-    let a = c .before .before .before .before .before .before .before .before .before .before .before .before .before .before .before .before .args in
+    let b = c .before .before .before .before .before .before .before .before .before .before .before .before in
+    let a = b .before .before .before .before .args in
     let t = a .table .now in
-    let e = c .before .before .before .before .before .before .before .before .before .before .before .before .before .is-sound .ensures in
-    let tested = c .before .before .before .before .before .before .before .before .before .before .before .before .if1 .left in
-    let rule = sound-rule t _ e tested in
-    let ok = sound-now t _ e tested in
+    let rule = sound-rule t _ (b .before .is-sound .ensures) (b .if1 .left) in
+    let ok = sound-now t _ (b .before .is-sound .ensures) (b .if1 .left) in
+    let set = c .before .before .before .before .before .before .before .before .before .before .if2 .left in
+    let used = c .before .before .before .before .before .before .before .before .before .if3 .left in
+    let to = c .before .before .before .before .before .before .before .before .to-seconds .ensures in
+    let got = c .before .before .before .before .before .before .date .given .1 in
+    let later = later-date t (a .when) _ to got (c .before .before .before .if4 .left) in
     let at = c .before .named .ensures in
     refuses t (fireWhen (a .id) (a .when) (a .routine) (a .user-data)) InvalidId 4
-    (rule, (clock-running t (c .before .before .before .before .before .before .before .before .before .before .if2 .left), (ne-eqb (a .routine) 0 (c .before .before .before .before .before .before .before .before .before .if3 .left), (later-date t (a .when) _ (c .before .before .before .before .before .before .before .before .to-seconds .ensures) (c .before .before .before .before .before .before .date .given .1) (c .before .before .before .if4 .left), tt))))
+    (rule, (clock-running t set, (ne-eqb (a .routine) 0 used, (later, tt))))
     (unknown t ok (a .id) _ at (c .if5 .taken)) refl
 
 start-requires : tie.Need-start-requires
 start-requires c κs =
-    let a = c .before .before .before .before .before .before .before .before .before .before .before .before .before .before .before .before .before .args in
+    let b = c .before .before .before .before .before .before .before .before .before .before .before .before .before in
+    let a = b .before .before .before .before .args in
     let t = a .table .now in
-    let ok = sound-now t _ (c .before .before .before .before .before .before .before .before .before .before .before .before .before .before .is-sound .ensures) (c .before .before .before .before .before .before .before .before .before .before .before .before .before .if1 .left) in
+    let ok = sound-now t _ (b .before .is-sound .ensures) (b .if1 .left) in
     let some = c .before .if5 .left in
     let at = c .before .before .named .ensures in
     (in-table t ok (a .id) _ at some, tt)
@@ -129,20 +149,23 @@ same-length-7 c = search needs
 
 returns-7 : tie.Need-returns-7
 returns-7 c =
-    let a = c .before .before .before .before .before .before .before .before .before .before .before .before .before .before .before .before .before .before .before .before .args in
+    let b = c .before .before .before .before .before .before .before .before .before .before .before .before .before .before .before .before in
+    let a = b .before .before .before .before .args in
     let t = a .table .now in
-    let e = c .before .before .before .before .before .before .before .before .before .before .before .before .before .before .before .before .before .is-sound .ensures in
-    let tested = c .before .before .before .before .before .before .before .before .before .before .before .before .before .before .before .before .if1 .left in
-    let rule = sound-rule t _ e tested in
-    let ok = sound-now t _ e tested in
+    let rule = sound-rule t _ (b .before .is-sound .ensures) (b .if1 .left) in
+    let ok = sound-now t _ (b .before .is-sound .ensures) (b .if1 .left) in
+    let set = c .before .before .before .before .before .before .before .before .before .before .before .before .before .before .if2 .left in
+    let used = c .before .before .before .before .before .before .before .before .before .before .before .before .before .if3 .left in
+    let to = c .before .before .before .before .before .before .before .before .before .before .before .before .to-seconds .ensures in
+    let got = c .before .before .before .before .before .before .before .before .before .before .date .given .1 in
+    let later = later-date t (a .when) _ to got (c .before .before .before .before .before .before .before .if4 .left) in
     let some = c .before .before .before .before .if5 .left in
     let at = c .before .before .before .before .before .named .ensures in
     let i = c .before .before .before .before .before .named .result in
     let is = index-is t ok (a .id) i at some in
     done t (fireWhen (a .id) (a .when) (a .routine) (a .user-data)) (0 ∷ []) _ []
-    (rule, (clock-running t (c .before .before .before .before .before .before .before .before .before .before .before .before .before .before .if2 .left), (ne-eqb (a .routine) 0 (c .before .before .before .before .before .before .before .before .before .before .before .before .before .if3 .left), (later-date t (a .when) _ (c .before .before .before .before .before .before .before .before .before .before .before .before .to-seconds .ensures) (c .before .before .before .before .before .before .before .before .before .before .date .given .1) (c .before .before .before .before .before .before .before .if4 .left), (known t ok (a .id) i at some, tt))))) refl
-    (c .before .before .start .ensures
-    ∙ dated-is t (a .when) _ i _ (a .routine) (a .user-data) (c .before .before .before .before .before .before .before .before .before .before .before .before .to-seconds .ensures) (c .before .before .before .before .before .before .before .before .before .before .date .given .1) is) refl
+    (rule, (clock-running t set, (ne-eqb (a .routine) 0 used, (later, (known t ok (a .id) i at some, tt))))) refl
+    (c .before .before .start .ensures ∙ dated-is t (a .when) _ i _ (a .routine) (a .user-data) to got is) refl
 
 pub fire-when-spec : {M : Type 1} → statement M
 fire-when-spec =

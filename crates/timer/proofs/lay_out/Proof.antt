@@ -47,7 +47,9 @@ slice-write-table-2 : tie.Need-slice-write-table-2
 slice-write-table-2 c =
     let a = c .before .before .before .before .before .before .before .before .args in
     let u = c .before .before .clear .last .0 in
-    below-set ℕ u 1 0 (a .slots) (omega (arith, clear-length (a .table .now) u (10 + 8 * a .slots) (c .before .before .before .before .if2 .left) (c .before .before .clear .ensures)))
+    let fits = c .before .before .before .before .if2 .left in
+    let long = clear-length (a .table .now) u (10 + 8 * a .slots) fits (c .before .before .clear .ensures) in
+    below-set ℕ u 1 0 (a .slots) (omega arith)
 
 same-length : tie.Need-same-length
 same-length c = search needs

@@ -25,9 +25,10 @@ returns c =
 
 named-requires : tie.Need-named-requires
 named-requires c κs =
-    let a = c .before .before .before .before .before .args in
+    let b = c .before in
+    let a = b .before .before .before .before .args in
     let t = a .table .now in
-    let ok = sound-now t _ (c .before .before .is-sound .ensures) (c .before .if1 .left) in
+    let ok = sound-now t _ (b .before .is-sound .ensures) (b .if1 .left) in
     ok
 
 same-length-2 : tie.Need-same-length-2
@@ -35,20 +36,20 @@ same-length-2 c = search needs
 
 returns-2 : tie.Need-returns-2
 returns-2 c =
-    let a = c .before .before .before .before .before .before .before .args in
+    let b = c .before .before .before in
+    let a = b .before .before .before .before .args in
     let t = a .table .now in
-    let e = c .before .before .before .before .is-sound .ensures in
-    let tested = c .before .before .before .if1 .left in
-    let rule = sound-rule t _ e tested in
-    let ok = sound-now t _ e tested in
+    let rule = sound-rule t _ (b .before .is-sound .ensures) (b .if1 .left) in
+    let ok = sound-now t _ (b .before .is-sound .ensures) (b .if1 .left) in
     let at = c .before .named .ensures in
     refuses t (reset (a .id)) InvalidId 1 (rule, tt) (unknown t ok (a .id) _ at (c .if2 .taken)) refl
 
 get-requires : tie.Need-get-requires
 get-requires c κs =
-    let a = c .before .before .before .before .before .before .before .before .args in
+    let b = c .before .before .before .before in
+    let a = b .before .before .before .before .args in
     let t = a .table .now in
-    let ok = sound-now t _ (c .before .before .before .before .before .is-sound .ensures) (c .before .before .before .before .if1 .left) in
+    let ok = sound-now t _ (b .before .is-sound .ensures) (b .if1 .left) in
     let some = c .before .if2 .left in
     let at = c .before .before .named .ensures in
     (omega arith, named-inside t ok (a .id) _ at some)
@@ -61,12 +62,11 @@ same-length-3 c = search needs
 
 returns-3 : tie.Need-returns-3
 returns-3 c =
-    let a = c .before .before .before .before .before .before .before .before .before .before .before .args in
+    let b = c .before .before .before .before .before .before .before in
+    let a = b .before .before .before .before .args in
     let t = a .table .now in
-    let e = c .before .before .before .before .before .before .before .before .is-sound .ensures in
-    let tested = c .before .before .before .before .before .before .before .if1 .left in
-    let rule = sound-rule t _ e tested in
-    let ok = sound-now t _ e tested in
+    let rule = sound-rule t _ (b .before .is-sound .ensures) (b .if1 .left) in
+    let ok = sound-now t _ (b .before .is-sound .ensures) (b .if1 .left) in
     let some = c .before .before .before .before .if2 .left in
     let at = c .before .before .before .before .before .named .ensures in
     refuses t (reset (a .id)) NotDefined 2 (rule, (known t ok (a .id) _ at some, tt))
@@ -74,36 +74,40 @@ returns-3 c =
 
 get-requires-2 : tie.Need-get-requires-2
 get-requires-2 c κs =
-    let a = c .before .before .before .before .before .before .before .before .before .before .before .before .args in
+    let b = c .before .before .before .before .before .before .before .before in
+    let a = b .before .before .before .before .args in
     let t = a .table .now in
-    let ok = sound-now t _ (c .before .before .before .before .before .before .before .before .before .is-sound .ensures) (c .before .before .before .before .before .before .before .before .if1 .left) in
+    let ok = sound-now t _ (b .before .is-sound .ensures) (b .if1 .left) in
     let some = c .before .before .before .before .before .if2 .left in
     let at = c .before .before .before .before .before .before .named .ensures in
     (omega arith, named-inside t ok (a .id) _ at some)
 
 get-requires-3 : tie.Need-get-requires-3
 get-requires-3 c κs =
-    let a = c .before .before .before .before .before .before .before .before .before .before .before .before .before .before .args in
+    let b = c .before .before .before .before .before .before .before .before .before .before in
+    let a = b .before .before .before .before .args in
     let t = a .table .now in
-    let ok = sound-now t _ (c .before .before .before .before .before .before .before .before .before .before .before .is-sound .ensures) (c .before .before .before .before .before .before .before .before .before .before .if1 .left) in
+    let ok = sound-now t _ (b .before .is-sound .ensures) (b .if1 .left) in
     let some = c .before .before .before .before .before .before .before .if2 .left in
     let at = c .before .before .before .before .before .before .before .before .named .ensures in
     (omega arith, named-inside t ok (a .id) _ at some)
 
 get-requires-4 : tie.Need-get-requires-4
 get-requires-4 c κs =
-    let a = c .before .before .before .before .before .before .before .before .before .before .before .before .before .before .before .before .args in
+    let b = c .before .before .before .before .before .before .before .before .before .before .before .before in
+    let a = b .before .before .before .before .args in
     let t = a .table .now in
-    let ok = sound-now t _ (c .before .before .before .before .before .before .before .before .before .before .before .before .before .is-sound .ensures) (c .before .before .before .before .before .before .before .before .before .before .before .before .if1 .left) in
+    let ok = sound-now t _ (b .before .is-sound .ensures) (b .if1 .left) in
     let some = c .before .before .before .before .before .before .before .before .before .if2 .left in
     let at = c .before .before .before .before .before .before .before .before .before .before .named .ensures in
     (omega arith, named-inside t ok (a .id) _ at some)
 
 start-requires : tie.Need-start-requires
 start-requires c κs =
-    let a = c .before .before .before .before .before .before .before .before .before .before .before .before .before .before .before .before .before .before .args in
+    let b = c .before .before .before .before .before .before .before .before .before .before .before .before .before .before in
+    let a = b .before .before .before .before .args in
     let t = a .table .now in
-    let ok = sound-now t _ (c .before .before .before .before .before .before .before .before .before .before .before .before .before .before .before .is-sound .ensures) (c .before .before .before .before .before .before .before .before .before .before .before .before .before .before .if1 .left) in
+    let ok = sound-now t _ (b .before .is-sound .ensures) (b .if1 .left) in
     let some = c .before .before .before .before .before .before .before .before .before .before .before .if2 .left in
     let at = c .before .before .before .before .before .before .before .before .before .before .before .before .named .ensures in
     (in-table t ok (a .id) _ at some, omega arith)
@@ -113,17 +117,19 @@ same-length-4 c = search needs
 
 returns-4 : tie.Need-returns-4
 returns-4 c =
-    let a = c .before .before .before .before .before .before .before .before .before .before .before .before .before .before .before .before .before .before .before .before .before .args in
+    let b = c .before .before .before .before .before .before .before .before .before .before .before .before .before .before .before .before .before in
+    let a = b .before .before .before .before .args in
     let t = a .table .now in
-    let e = c .before .before .before .before .before .before .before .before .before .before .before .before .before .before .before .before .before .before .is-sound .ensures in
-    let tested = c .before .before .before .before .before .before .before .before .before .before .before .before .before .before .before .before .before .if1 .left in
-    let rule = sound-rule t _ e tested in
-    let ok = sound-now t _ e tested in
+    let rule = sound-rule t _ (b .before .is-sound .ensures) (b .if1 .left) in
+    let ok = sound-now t _ (b .before .is-sound .ensures) (b .if1 .left) in
     let some = c .before .before .before .before .before .before .before .before .before .before .before .before .before .before .if2 .left in
     let at = c .before .before .before .before .before .before .before .before .before .before .before .before .before .before .before .named .ensures in
-    done t (reset (a .id)) (0 ∷ []) _ []
-    (rule, (known t ok (a .id) _ at some, (by-ticks t ok (a .id) _ at some (c .before .before .before .before .before .before .before .before .before .before .before .before .get .ensures) (c .before .before .before .before .before .before .before .before .before .before .before .was-by-ticks .ensures) (c .before .before .before .before .before .before .before .before .before .before .if3 .left), tt))) refl
-    (c .before .before .start .ensures ∙ reset-is t ok (a .id) _ at some (c .before .before .before .before .before .before .before .before .get2 .ensures) (c .before .before .before .before .before .before .get3 .ensures) (c .before .before .before .before .get4 .ensures)) refl
+    let ticks = c .before .before .before .before .before .before .before .before .get2 .ensures in
+    let routine = c .before .before .before .before .before .before .get3 .ensures in
+    let user-data = c .before .before .before .before .get4 .ensures in
+    let timed = by-ticks t ok (a .id) _ at some (c .before .before .before .before .before .before .before .before .before .before .before .before .get .ensures) (c .before .before .before .before .before .before .before .before .before .before .before .was-by-ticks .ensures) (c .before .before .before .before .before .before .before .before .before .before .if3 .left) in
+    done t (reset (a .id)) (0 ∷ []) _ [] (rule, (known t ok (a .id) _ at some, (timed, tt))) refl
+    (c .before .before .start .ensures ∙ reset-is t ok (a .id) _ at some ticks routine user-data) refl
 
 pub reset-spec : {M : Type 1} → statement M
 reset-spec =

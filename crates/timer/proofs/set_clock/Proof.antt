@@ -26,17 +26,19 @@ returns c =
 
 slice-read-list-words : tie.Need-slice-read-list-words
 slice-read-list-words c =
-    let a = c .before .before .before .before .before .before .args in
+    let b = c .before in
+    let a = b .before .before .before .before .before .args in
     let t = a .table .now in
-    let ok = sound-now t _ (c .before .before .is-sound .ensures) (c .before .if1 .left) in
+    let ok = sound-now t _ (b .before .is-sound .ensures) (b .if1 .left) in
     let h = sound-header t ok in
     omega arith
 
 list-words-requires : tie.Need-list-words-requires
 list-words-requires c κs =
-    let a = c .before .before .before .before .before .before .args in
+    let b = c .before in
+    let a = b .before .before .before .before .before .args in
     let t = a .table .now in
-    let ok = sound-now t _ (c .before .before .is-sound .ensures) (c .before .if1 .left) in
+    let ok = sound-now t _ (b .before .is-sound .ensures) (b .if1 .left) in
     let h = sound-header t ok in
     omega arith
 
@@ -45,10 +47,12 @@ same-length-2 c = search needs
 
 returns-2 : tie.Need-returns-2
 returns-2 c =
-    let a = c .before .before .before .before .before .before .before .before .args in
+    let b = c .before .before .before in
+    let a = b .before .before .before .before .before .args in
     let t = a .table .now in
-    let rule = sound-rule t _ (c .before .before .before .before .is-sound .ensures) (c .before .before .before .if1 .left) in
-    refuses t (setClock (a .time) (a .fired .now)) ListTooShort 1 (rule, tt) (too-short t (a .fired .now) _ (c .before .list-words .ensures) (c .if2 .taken)) refl
+    let rule = sound-rule t _ (b .before .is-sound .ensures) (b .if1 .left) in
+    refuses t (setClock (a .time) (a .fired .now)) ListTooShort 1 (rule, tt)
+    (too-short t (a .fired .now) _ (c .before .list-words .ensures) (c .if2 .taken)) refl
 
 to-seconds-requires : tie.Need-to-seconds-requires
 to-seconds-requires c κs = search needs
@@ -64,27 +68,32 @@ same-length-3 c = search needs
 
 returns-3 : tie.Need-returns-3
 returns-3 c =
-    let a = c .before .before .before .before .before .before .before .before .before .before .before .args in
+    let b = c .before .before .before .before .before .before in
+    let a = b .before .before .before .before .before .args in
     let t = a .table .now in
-    let rule = sound-rule t _ (c .before .before .before .before .before .before .before .is-sound .ensures) (c .before .before .before .before .before .before .if1 .left) in
-    let long = long-enough t (a .fired .now) _ (c .before .before .before .before .list-words .ensures) (c .before .before .before .if2 .left) in
+    let rule = sound-rule t _ (b .before .is-sound .ensures) (b .if1 .left) in
+    let room = c .before .before .before .if2 .left in
+    let long = long-enough t (a .fired .now) _ (c .before .before .before .before .list-words .ensures) room in
     refuses t (setClock (a .time) (a .fired .now)) InvalidClock 2 (rule, (not-short t (a .fired .now) long, tt))
     (not-valid (a .time) (c .before .before .to-seconds .ensures) (c .enum-told .given .1)) refl
 
 set-clock-requires : tie.Need-set-clock-requires
 set-clock-requires c κs =
-    let a = c .before .before .before .before .before .before .before .before .before .before .before .before .before .args in
+    let b = c .before .before .before .before .before .before .before .before in
+    let a = b .before .before .before .before .before .args in
     let t = a .table .now in
-    let ok = sound-now t _ (c .before .before .before .before .before .before .before .before .before .is-sound .ensures) (c .before .before .before .before .before .before .before .before .if1 .left) in
+    let ok = sound-now t _ (b .before .is-sound .ensures) (b .if1 .left) in
     sound-holds t ok
 
 fire-requires : tie.Need-fire-requires
 fire-requires c κs =
-    let a = c .before .before .before .before .before .before .before .before .before .before .before .before .before .before .before .before .before .before .args in
+    let b = c .before .before .before .before .before .before .before .before .before .before .before .before .before in
+    let a = b .before .before .before .before .before .args in
     let t = a .table .now in
     let list = a .fired .now in
-    let ok = sound-now t _ (c .before .before .before .before .before .before .before .before .before .before .before .before .before .before .is-sound .ensures) (c .before .before .before .before .before .before .before .before .before .before .before .before .before .if1 .left) in
-    let long = long-enough t list _ (c .before .before .before .before .before .before .before .before .before .before .before .list-words .ensures) (c .before .before .before .before .before .before .before .before .before .before .if2 .left) in
+    let ok = sound-now t _ (b .before .is-sound .ensures) (b .if1 .left) in
+    let room = c .before .before .before .before .before .before .before .before .before .before .if2 .left in
+    let long = long-enough t list _ (c .before .before .before .before .before .before .before .before .before .before .before .list-words .ensures) room in
     moved-room t list ok long _ (c .before .before .before .before .set-clock .ensures)
 
 same-length-4 : tie.Need-same-length-4
@@ -95,15 +104,19 @@ same-length-5 c = search needs
 
 returns-4 : tie.Need-returns-4
 returns-4 c =
-    let a = c .before .before .before .before .before .before .before .before .before .before .before .before .before .before .before .before .before .before .before .before .before .before .before .args in
+    let b = c .before .before .before .before .before .before .before .before .before .before .before .before .before .before .before .before .before .before in
+    let a = b .before .before .before .before .before .args in
     let t = a .table .now in
     let list = a .fired .now in
-    let ok = sound-now t _ (c .before .before .before .before .before .before .before .before .before .before .before .before .before .before .before .before .before .before .before .is-sound .ensures) (c .before .before .before .before .before .before .before .before .before .before .before .before .before .before .before .before .before .before .if1 .left) in
-    let long = long-enough t list _ (c .before .before .before .before .before .before .before .before .before .before .before .before .before .before .before .before .list-words .ensures) (c .before .before .before .before .before .before .before .before .before .before .before .before .before .before .before .if2 .left) in
-    let rule = sound-rule t _ (c .before .before .before .before .before .before .before .before .before .before .before .before .before .before .before .before .before .before .before .is-sound .ensures) (c .before .before .before .before .before .before .before .before .before .before .before .before .before .before .before .before .before .before .if1 .left) in
+    let ok = sound-now t _ (b .before .is-sound .ensures) (b .if1 .left) in
+    let room = c .before .before .before .before .before .before .before .before .before .before .before .before .before .before .before .if2 .left in
+    let long = long-enough t list _ (c .before .before .before .before .before .before .before .before .before .before .before .before .before .before .before .before .list-words .ensures) room in
+    let to = c .before .before .before .before .before .before .before .before .before .before .before .before .before .before .to-seconds .ensures in
+    let got = c .before .before .before .before .before .before .before .before .before .before .before .before .second .given .1 in
+    let rule = sound-rule t _ (b .before .is-sound .ensures) (b .if1 .left) in
     let l = moved-is t list ok long _ (c .before .before .before .before .before .before .before .before .before .set-clock .ensures) (c .before .before .before .before .fire .ensures) in
-    let d = second-is (a .time) _ (c .before .before .before .before .before .before .before .before .before .before .before .before .before .before .to-seconds .ensures) (c .before .before .before .before .before .before .before .before .before .before .before .before .second .given .1) in
-    set-clock-done t (a .time) list _ _ _ _ (rule, (not-short t list long, (is-valid (a .time) _ (c .before .before .before .before .before .before .before .before .before .before .before .before .before .before .to-seconds .ensures) (c .before .before .before .before .before .before .before .before .before .before .before .before .second .given .1), tt))) d l
+    set-clock-done t (a .time) list _ _ _ _
+    (rule, (not-short t list long, (is-valid (a .time) _ to got, tt))) (second-is (a .time) _ to got) l
 
 pub set-clock-spec : {M : Type 1} → statement M
 set-clock-spec =

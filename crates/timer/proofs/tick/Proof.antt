@@ -25,17 +25,19 @@ returns c =
 
 slice-read-list-words : tie.Need-slice-read-list-words
 slice-read-list-words c =
-    let a = c .before .before .before .before .before .before .args in
+    let b = c .before in
+    let a = b .before .before .before .before .before .args in
     let t = a .table .now in
-    let ok = sound-now t _ (c .before .before .is-sound .ensures) (c .before .if1 .left) in
+    let ok = sound-now t _ (b .before .is-sound .ensures) (b .if1 .left) in
     let h = sound-header t ok in
     omega arith
 
 list-words-requires : tie.Need-list-words-requires
 list-words-requires c κs =
-    let a = c .before .before .before .before .before .before .args in
+    let b = c .before in
+    let a = b .before .before .before .before .before .args in
     let t = a .table .now in
-    let ok = sound-now t _ (c .before .before .is-sound .ensures) (c .before .if1 .left) in
+    let ok = sound-now t _ (b .before .is-sound .ensures) (b .if1 .left) in
     let h = sound-header t ok in
     omega arith
 
@@ -44,55 +46,72 @@ same-length-2 c = search needs
 
 returns-2 : tie.Need-returns-2
 returns-2 c =
-    let a = c .before .before .before .before .before .before .before .before .args in
+    let b = c .before .before .before in
+    let a = b .before .before .before .before .before .args in
     let t = a .table .now in
-    let rule = sound-rule t _ (c .before .before .before .before .is-sound .ensures) (c .before .before .before .if1 .left) in
-    refuses t (tick (a .fired .now)) ListTooShort 1 (rule, tt) (too-short t (a .fired .now) _ (c .before .list-words .ensures) (c .if2 .taken)) refl
+    let rule = sound-rule t _ (b .before .is-sound .ensures) (b .if1 .left) in
+    refuses t (tick (a .fired .now)) ListTooShort 1 (rule, tt)
+    (too-short t (a .fired .now) _ (c .before .list-words .ensures) (c .if2 .taken)) refl
 
 come-nearer-requires : tie.Need-come-nearer-requires
 come-nearer-requires c κs =
-    let a = c .before .before .before .before .before .before .before .before .before .args in
+    let b = c .before .before .before .before in
+    let a = b .before .before .before .before .before .args in
     let t = a .table .now in
-    let ok = sound-now t _ (c .before .before .before .before .before .is-sound .ensures) (c .before .before .before .before .if1 .left) in
+    let ok = sound-now t _ (b .before .is-sound .ensures) (b .if1 .left) in
     ok
 
 fire-requires : tie.Need-fire-requires
 fire-requires c κs =
-    let a = c .before .before .before .before .before .before .before .before .before .before .before .before .before .before .args in
+    let b = c .before .before .before .before .before .before .before .before .before in
+    let a = b .before .before .before .before .before .args in
     let t = a .table .now in
     let list = a .fired .now in
-    let ok = sound-now t _ (c .before .before .before .before .before .before .before .before .before .before .is-sound .ensures) (c .before .before .before .before .before .before .before .before .before .if1 .left) in
-    let long = long-enough t list _ (c .before .before .before .before .before .before .before .list-words .ensures) (c .before .before .before .before .before .before .if2 .left) in
+    let ok = sound-now t _ (b .before .is-sound .ensures) (b .if1 .left) in
+    let room = c .before .before .before .before .before .before .if2 .left in
+    let long = long-enough t list _ (c .before .before .before .before .before .before .before .list-words .ensures) room in
     nearer-room t list ok long (c .before .before .before .before .come-nearer .ensures)
 
 step-clock-requires : tie.Need-step-clock-requires
 step-clock-requires c κs =
-    let a = c .before .before .before .before .before .before .before .before .before .before .before .before .before .before .before .before .before .before .before .before .args in
+    let b = c .before .before .before .before .before .before .before .before .before .before .before .before .before .before .before in
+    let a = b .before .before .before .before .before .args in
     let t = a .table .now in
     let list = a .fired .now in
-    let ok = sound-now t _ (c .before .before .before .before .before .before .before .before .before .before .before .before .before .before .before .before .is-sound .ensures) (c .before .before .before .before .before .before .before .before .before .before .before .before .before .before .before .if1 .left) in
-    let long = long-enough t list _ (c .before .before .before .before .before .before .before .before .before .before .before .before .before .list-words .ensures) (c .before .before .before .before .before .before .before .before .before .before .before .before .if2 .left) in
+    let ok = sound-now t _ (b .before .is-sound .ensures) (b .if1 .left) in
+    let room = c .before .before .before .before .before .before .before .before .before .before .before .before .if2 .left in
+    let long = long-enough t list _ (c .before .before .before .before .before .before .before .before .before .before .before .before .before .list-words .ensures) room in
     let e₁ = c .before .before .before .before .before .before .before .before .before .before .come-nearer .ensures in
-    (first-holds t list ok long e₁ (c .before .before .before .before .before .fire .ensures), first-into t list ok long e₁ (c .before .before .before .before .before .fire .ensures))
+    let f₁ = c .before .before .before .before .before .fire .ensures in
+    (first-holds t list ok long e₁ f₁, first-into t list ok long e₁ f₁)
 
 slice-read-second : tie.Need-slice-read-second
 slice-read-second c =
-    let a = c .before .before .before .before .before .before .before .before .before .before .before .before .before .before .before .before .before .before .before .before .before .before .before .before .args in
+    let b = c .before .before .before .before .before .before .before .before .before .before .before .before .before .before .before .before .before .before .before in
+    let a = b .before .before .before .before .before .args in
     let t = a .table .now in
     let list = a .fired .now in
-    let ok = sound-now t _ (c .before .before .before .before .before .before .before .before .before .before .before .before .before .before .before .before .before .before .before .before .is-sound .ensures) (c .before .before .before .before .before .before .before .before .before .before .before .before .before .before .before .before .before .before .before .if1 .left) in
-    let long = long-enough t list _ (c .before .before .before .before .before .before .before .before .before .before .before .before .before .before .before .before .before .list-words .ensures) (c .before .before .before .before .before .before .before .before .before .before .before .before .before .before .before .before .if2 .left) in
-    let room = clock-room t list ok long (c .before .before .before .before .before .before .before .before .before .before .before .before .before .before .come-nearer .ensures) (c .before .before .before .before .before .before .before .before .before .fire .ensures) (c .before .before .before .step-clock .ensures) in
-    omega (arith, room .holds .long)
+    let ok = sound-now t _ (b .before .is-sound .ensures) (b .if1 .left) in
+    let room = c .before .before .before .before .before .before .before .before .before .before .before .before .before .before .before .before .if2 .left in
+    let long = long-enough t list _ (c .before .before .before .before .before .before .before .before .before .before .before .before .before .before .before .before .before .list-words .ensures) room in
+    let e₁ = c .before .before .before .before .before .before .before .before .before .before .before .before .before .before .come-nearer .ensures in
+    let f₁ = c .before .before .before .before .before .before .before .before .before .fire .ensures in
+    let e₃ = c .before .before .before .step-clock .ensures in
+    omega (arith, clock-room t list ok long e₁ f₁ e₃ .holds .long)
 
 fire-requires-2 : tie.Need-fire-requires-2
 fire-requires-2 c κs =
-    let a = c .before .before .before .before .before .before .before .before .before .before .before .before .before .before .before .before .before .before .before .before .before .before .before .before .before .before .args in
+    let b = c .before .before .before .before .before .before .before .before .before .before .before .before .before .before .before .before .before .before .before .before .before in
+    let a = b .before .before .before .before .before .args in
     let t = a .table .now in
     let list = a .fired .now in
-    let ok = sound-now t _ (c .before .before .before .before .before .before .before .before .before .before .before .before .before .before .before .before .before .before .before .before .before .before .is-sound .ensures) (c .before .before .before .before .before .before .before .before .before .before .before .before .before .before .before .before .before .before .before .before .before .if1 .left) in
-    let long = long-enough t list _ (c .before .before .before .before .before .before .before .before .before .before .before .before .before .before .before .before .before .before .before .list-words .ensures) (c .before .before .before .before .before .before .before .before .before .before .before .before .before .before .before .before .before .before .if2 .left) in
-    clock-room t list ok long (c .before .before .before .before .before .before .before .before .before .before .before .before .before .before .before .before .come-nearer .ensures) (c .before .before .before .before .before .before .before .before .before .before .before .fire .ensures) (c .before .before .before .before .before .step-clock .ensures)
+    let ok = sound-now t _ (b .before .is-sound .ensures) (b .if1 .left) in
+    let room = c .before .before .before .before .before .before .before .before .before .before .before .before .before .before .before .before .before .before .if2 .left in
+    let long = long-enough t list _ (c .before .before .before .before .before .before .before .before .before .before .before .before .before .before .before .before .before .before .before .list-words .ensures) room in
+    let e₁ = c .before .before .before .before .before .before .before .before .before .before .before .before .before .before .before .before .come-nearer .ensures in
+    let f₁ = c .before .before .before .before .before .before .before .before .before .before .before .fire .ensures in
+    let e₃ = c .before .before .before .before .before .step-clock .ensures in
+    clock-room t list ok long e₁ f₁ e₃
 
 same-length-3 : tie.Need-same-length-3
 same-length-3 c = search needs
@@ -102,13 +121,18 @@ same-length-4 c = search needs
 
 returns-3 : tie.Need-returns-3
 returns-3 c =
-    let a = c .before .before .before .before .before .before .before .before .before .before .before .before .before .before .before .before .before .before .before .before .before .before .before .before .before .before .before .before .before .before .before .args in
+    let b = c .before .before .before .before .before .before .before .before .before .before .before .before .before .before .before .before .before .before .before .before .before .before .before .before .before .before in
+    let a = b .before .before .before .before .before .args in
     let t = a .table .now in
     let list = a .fired .now in
-    let ok = sound-now t _ (c .before .before .before .before .before .before .before .before .before .before .before .before .before .before .before .before .before .before .before .before .before .before .before .before .before .before .before .is-sound .ensures) (c .before .before .before .before .before .before .before .before .before .before .before .before .before .before .before .before .before .before .before .before .before .before .before .before .before .before .if1 .left) in
-    let long = long-enough t list _ (c .before .before .before .before .before .before .before .before .before .before .before .before .before .before .before .before .before .before .before .before .before .before .before .before .list-words .ensures) (c .before .before .before .before .before .before .before .before .before .before .before .before .before .before .before .before .before .before .before .before .before .before .before .if2 .left) in
-    let rule = sound-rule t _ (c .before .before .before .before .before .before .before .before .before .before .before .before .before .before .before .before .before .before .before .before .before .before .before .before .before .before .before .is-sound .ensures) (c .before .before .before .before .before .before .before .before .before .before .before .before .before .before .before .before .before .before .before .before .before .before .before .before .before .before .if1 .left) in
-    let l = ticked-is t list ok long (c .before .before .before .before .before .before .before .before .before .before .before .before .before .before .before .before .before .before .before .before .before .come-nearer .ensures) (c .before .before .before .before .before .before .before .before .before .before .before .before .before .before .before .before .fire .ensures) (c .before .before .before .before .before .before .before .before .before .before .step-clock .ensures) (c .before .before .before .before .fire2 .ensures) in
+    let ok = sound-now t _ (b .before .is-sound .ensures) (b .if1 .left) in
+    let room = c .before .before .before .before .before .before .before .before .before .before .before .before .before .before .before .before .before .before .before .before .before .before .before .if2 .left in
+    let long = long-enough t list _ (c .before .before .before .before .before .before .before .before .before .before .before .before .before .before .before .before .before .before .before .before .before .before .before .before .list-words .ensures) room in
+    let e₁ = c .before .before .before .before .before .before .before .before .before .before .before .before .before .before .before .before .before .before .before .before .before .come-nearer .ensures in
+    let f₁ = c .before .before .before .before .before .before .before .before .before .before .before .before .before .before .before .before .fire .ensures in
+    let e₃ = c .before .before .before .before .before .before .before .before .before .before .step-clock .ensures in
+    let rule = sound-rule t _ (b .before .is-sound .ensures) (b .if1 .left) in
+    let l = ticked-is t list ok long e₁ f₁ e₃ (c .before .before .before .before .fire2 .ensures) in
     done t (tick list) _ _ _ (rule, (not-short t list long, tt)) (l .answer) (l .table) (l .entries)
 
 pub tick-spec : {M : Type 1} → statement M

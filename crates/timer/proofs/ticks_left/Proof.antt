@@ -23,39 +23,39 @@ returns c =
 
 named-requires : tie.Need-named-requires
 named-requires c κs =
-    let a = c .before .before .before .args in
+    let b = c in
+    let a = b .before .before .before .args in
     let t = a .table .now in
-    let ok = sound-now t _ (c .before .is-sound .ensures) (c .if1 .left) in
+    let ok = sound-now t _ (b .before .is-sound .ensures) (b .if1 .left) in
     ok
 
 returns-2 : tie.Need-returns-2
 returns-2 c =
-    let a = c .before .before .before .before .before .args in
+    let b = c .before .before in
+    let a = b .before .before .before .args in
     let t = a .table .now in
-    let e = c .before .before .before .is-sound .ensures in
-    let tested = c .before .before .if1 .left in
-    let rule = sound-rule t _ e tested in
-    let ok = sound-now t _ e tested in
+    let rule = sound-rule t _ (b .before .is-sound .ensures) (b .if1 .left) in
+    let ok = sound-now t _ (b .before .is-sound .ensures) (b .if1 .left) in
     let at = c .before .named .ensures in
     refuses t (ticksLeft (a .id)) InvalidId 1 (rule, tt) (unknown t ok (a .id) _ at (c .if2 .taken)) refl
 
 get-requires : tie.Need-get-requires
 get-requires c κs =
-    let a = c .before .before .before .before .before .args in
+    let b = c .before .before in
+    let a = b .before .before .before .args in
     let t = a .table .now in
-    let ok = sound-now t _ (c .before .before .before .is-sound .ensures) (c .before .before .if1 .left) in
+    let ok = sound-now t _ (b .before .is-sound .ensures) (b .if1 .left) in
     let some = c .if2 .left in
     let at = c .before .named .ensures in
     (omega arith, named-inside t ok (a .id) _ at some)
 
 returns-3 : tie.Need-returns-3
 returns-3 c =
-    let a = c .before .before .before .before .before .before .before .args in
+    let b = c .before .before .before .before in
+    let a = b .before .before .before .args in
     let t = a .table .now in
-    let e = c .before .before .before .before .before .is-sound .ensures in
-    let tested = c .before .before .before .before .if1 .left in
-    let rule = sound-rule t _ e tested in
-    let ok = sound-now t _ e tested in
+    let rule = sound-rule t _ (b .before .is-sound .ensures) (b .if1 .left) in
+    let ok = sound-now t _ (b .before .is-sound .ensures) (b .if1 .left) in
     let some = c .before .before .if2 .left in
     let at = c .before .before .before .named .ensures in
     done t (ticksLeft (a .id)) (0 ∷ []) t [] (rule, (known t ok (a .id) _ at some, tt))
@@ -63,21 +63,21 @@ returns-3 c =
 
 ticks-to-requires : tie.Need-ticks-to-requires
 ticks-to-requires c κs =
-    let a = c .before .before .before .before .before .before .before .args in
+    let b = c .before .before .before .before in
+    let a = b .before .before .before .args in
     let t = a .table .now in
-    let ok = sound-now t _ (c .before .before .before .before .before .is-sound .ensures) (c .before .before .before .before .if1 .left) in
+    let ok = sound-now t _ (b .before .is-sound .ensures) (b .if1 .left) in
     let some = c .before .before .if2 .left in
     let at = c .before .before .before .named .ensures in
     (sound-holds t ok, λ p. ticks-met t ok (a .id) _ at some (sym (c .before .get .ensures) ∙ c .if3 .left))
 
 returns-4 : tie.Need-returns-4
 returns-4 c =
-    let a = c .before .before .before .before .before .before .before .before .args in
+    let b = c .before .before .before .before .before in
+    let a = b .before .before .before .args in
     let t = a .table .now in
-    let e = c .before .before .before .before .before .before .is-sound .ensures in
-    let tested = c .before .before .before .before .before .if1 .left in
-    let rule = sound-rule t _ e tested in
-    let ok = sound-now t _ e tested in
+    let rule = sound-rule t _ (b .before .is-sound .ensures) (b .if1 .left) in
+    let ok = sound-now t _ (b .before .is-sound .ensures) (b .if1 .left) in
     let some = c .before .before .before .if2 .left in
     let at = c .before .before .before .before .named .ensures in
     done t (ticksLeft (a .id)) (_ ∷ []) t [] (rule, (known t ok (a .id) _ at some, tt))
