@@ -3,11 +3,11 @@
 use mathlib.Core.Path.{_≡_, refl, sym, ap, ap₂, _∙_, subst}
 use Prim.Native.Nat.{ℕ, _+_}
 use native.Mathlib.Omega.{arith}
-use mathlib.Core.Bool.{Bool, true, false, not}
+use mathlib.Core.Bool.{Bool, true, false, cond, not}
 use mathlib.Core.List.{List, [], _∷_, _++_, map, reverse, reverseAux, append-assoc, append-nil}
 use lib.ListN.{length, length-map}
 use lib.Dec.{eqb}
-use borrow.Author.Tests.{eqb-true, eqb-false}
+use borrow.Author.Tests.{eqb-true, eqb-false, eq-eqb}
 use Rattle.model.specs.Lists.{keep}
 use Rattle.model.specs.Status.{firstOf}
 use Rattle.model.specs.Calls.{Call, layOut, create, ident, cancel, delete, fireAfter, fireWhen, reset, ticksLeft, tick, setClock, getClock}
@@ -18,7 +18,7 @@ use Rattle.model.specs.Words.{first, over, word, field, along, links, re
 use Rattle.model.specs.Sound.{sound}
 use Rattle.model.specs.Outcome.{Outcome, statusOn, refused, written, outcome}
 use Rattle.model.specs.History.{Event, laidOutFor, changes, oneTick, clockSetTo, nothing, eventOf, eventsFrom, moves, isTick, starts, waits, fires, inChain, dueAt, entry}
-use Rattle.model.specs.Demand.{after, acceptedIn, shown, Standing, Answers, laid, eventsAfter, Demand3}
+use Rattle.model.specs.Demand.{after, acceptedIn, shown, Standing, Answers, eventsAfter, Demand3}
 use Rattle.model.proofs.ListLaws.{cases, clash}
 use Rattle.model.proofs.Order.{order, order-in-order}
 use Rattle.model.proofs.WellFormed.{Holds}
@@ -100,17 +100,17 @@ module _ (t : List ℕ) (es h : List Event) (g : Good t es h) (c : Call) where
         let o = outcome-accepted t c z in
         let due = lists-due (read t) es h (g .agrees) f (not (sound t)) c st in
         let many : length (l ++ m) ≡ length (effect (read t) c .fired) =
-        sym (length-map (l ++ m) entry) ∙ sym (ap length due) ∙ length-map (effect (read t) c .fired) (listed (read t .slots)) in (
-          l,
-          m,
-          order-in-order dueAt (keep (inChain ByTicks) (keep (fires (eventOf h c)) (starts es))),
-          order-in-order dueAt (keep (inChain ByDate) (keep (fires (eventOf h c)) (starts es))),
-          ap (λ (x : Outcome). x .list) o ∙ ap (λ x. written x (effect (read t) c .lent)) due,
-          (λ moving. ap (λ (x : Outcome). x .answer) o ∙ counts (read t) h c moving ∙ ap {B = List ℕ} (λ (n : ℕ). n ∷ []) (sym many)),
-          (λ still. ap₂ (λ a b. a ++ b) (none-due (read t) es h (g .agrees) f (not (sound t)) ByTicks (eventOf h c) still (no-tick (eventOf h c) still))
-              (none-due (read t) es h (g .agrees) f (not (sound t)) ByDate (eventOf h c) still (no-tick (eventOf h c) still))),
-          omega (arith, many, bound (read t) f c, slots-length t),
-        );
+        sym (length-map (l ++ m) entry) ∙ sym (ap length due) ∙ length-map (effect (read t) c .fired) (listed (read t .slots)) in
+        record {
+          ticking = l;
+          dated = m;
+          ticking-order = order-in-order dueAt (keep (inChain ByTicks) (keep (fires (eventOf h c)) (starts es)));
+          dated-order = order-in-order dueAt (keep (inChain ByDate) (keep (fires (eventOf h c)) (starts es)));
+          entries = ap (λ (x : Outcome). x .list) o ∙ ap (λ x. written x (effect (read t) c .lent)) due;
+          counted = λ moving. ap (λ (x : Outcome). x .answer) o ∙ counts (read t) h c moving ∙ ap {B = List ℕ} (λ (n : ℕ). n ∷ []) (sym many);
+          quiet = λ still. ap₂ (λ a b. a ++ b) (none ByTicks still) (none ByDate still);
+          few = omega (arith, many, bound (read t) f c, slots-length t);
+        };
     refuses = λ e. outcome-refused t c (λ z. e (outcome-status t c ∙ z)) ∙ ap (λ (n : ℕ). refused n t c) (sym (outcome-status t c));
   }
     where
@@ -120,6 +120,10 @@ module _ (t : List ℕ) (es h : List Event) (g : Good t es h) (c : Call) where
       no-tick oneTick z = clash z
       no-tick (clockSetTo d) z = refl
       no-tick nothing z = refl
+
+      none : (k : Chain) → moves (eventOf h c) ≡ false → order dueAt (keep (inChain k) (keep (fires (eventOf h c)) (starts es))) ≡ []
+      none k still =
+          none-due (read t) es h (g .agrees) (sound-well-formed t (g .is-sound)) (not (sound t)) k (eventOf h c) still (no-tick (eventOf h c) still)
 
   pub standing-now : Standing t es
   standing-now =
@@ -164,26 +168,33 @@ run (c ∷ xs) t es h g =
     rw b (run xs (outcome t c .table) es h (subst (λ (x : List ℕ). Good x es h) (sym o) g)))
 
 -- the table that a lay out leaves
-begins : (w : List ℕ) (n t : ℕ) → statusOn w (layOut n t) ≡ 0 → Good (laid w n t) (laidOutFor t ∷ []) (laidOutFor t ∷ [])
+begins : (w : List ℕ) (n t : ℕ) → statusOn w (layOut n t) ≡ 0 → Good (outcome w (layOut n t) .table) (laidOutFor t ∷ []) (laidOutFor t ∷ [])
 begins w n t e =
     let st = sym (status-is w (layOut n t)) ∙ e in
     let p = passed (not (sound w)) (read w) (layOut n t) st in
     let s = laidOut (length w) n t in
     let hold = laid-holds w n t st in
-    let o : laid w n t ≡ over s w = ap (λ (x : Outcome). x .table) (outcome-accepted w (layOut n t) e) in
+    let o : outcome w (layOut n t) .table ≡ over s w = ap (λ (x : Outcome). x .table) (outcome-accepted w (layOut n t) e) in
     subst (λ (x : List ℕ). Good x (laidOutFor t ∷ []) (laidOutFor t ∷ [])) (sym o) (record {
       is-sound = well-formed-sound (over s w) s hold (laid-well-formed (length w) n t (p .slots-low) (p .slots-high) (p .ticks-low) (p .ticks-high));
       agrees = subst (λ (x : State). Agrees x (laidOutFor t ∷ []) (laidOutFor t ∷ [])) (sym (read-back (over s w) s hold)) (agrees-laid (length w) n t);
     })
 
+-- the table and the events after an accepted lay out and any calls
+good-after : (w : List ℕ) (n t : ℕ) → outcome w (layOut n t) .status ≡ 0 → (xs : List Call)
+    → Good (after w (layOut n t ∷ xs)) (eventsAfter w (layOut n t ∷ xs)) (reverse (eventsAfter w (layOut n t ∷ xs)))
+good-after w n t e xs =
+    let t₀ = outcome w (layOut n t) .table in
+    let h₀ : List Event = laidOutFor t ∷ [] in
+    let g = run xs t₀ h₀ h₀ (begins w n t (sym (outcome-status w (layOut n t)) ∙ e)) in
+    subst (λ (cs : List Call). Good (after t₀ xs) (eventsFrom [] cs) (reverse (eventsFrom [] cs)))
+    (ap (λ (b : Bool). cond b (layOut n t ∷ acceptedIn t₀ xs) (acceptedIn t₀ xs)) (sym (eq-eqb (outcome w (layOut n t) .status) 0 e))) g
+
 pub demand3 : (w : List ℕ) (n t : ℕ) → outcome w (layOut n t) .status ≡ 0 → (cs : List Call) → Demand3 w n t cs
 demand3 w n t e cs =
-    let t₀ = laid w n t in
-    let h₀ : List Event = laidOutFor t ∷ [] in
-    let z : statusOn w (layOut n t) ≡ 0 = sym (outcome-status w (layOut n t)) ∙ e in
-    let good : (xs : List Call) → Good (after t₀ xs) (eventsAfter w n t xs) (reverse (eventsAfter w n t xs)) =
-    λ xs. run xs t₀ h₀ h₀ (begins w n t z) in
+    let now : List Call → List ℕ = λ xs. after w (layOut n t ∷ xs) in
+    let es : List Call → List Event = λ xs. eventsAfter w (layOut n t ∷ xs) in
     record {
-      standing = λ xs ys _. standing-now (after t₀ xs) (eventsAfter w n t xs) (reverse (eventsAfter w n t xs)) (good xs) (layOut n t);
-      answers = λ xs ys c _. answers-now (after t₀ xs) (eventsAfter w n t xs) (reverse (eventsAfter w n t xs)) (good xs) c;
+      standing = λ xs ys _. standing-now (now xs) (es xs) (reverse (es xs)) (good-after w n t e xs) (layOut n t);
+      answers = λ xs ys c _. answers-now (now xs) (es xs) (reverse (es xs)) (good-after w n t e xs) c;
     }

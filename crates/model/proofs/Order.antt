@@ -7,7 +7,7 @@ use mathlib.Core.Bool.{Bool}
 use mathlib.Core.List.{List, [], _∷_, _++_, map, append-assoc, append-nil}
 use lib.Dec.{leb, eqb}
 use borrow.Author.Tests.{eqb-true}
-use Rattle.model.specs.Lists.{goesBehind, keep, place, All, Sorted, InOrder}
+use Rattle.model.specs.Lists.{keep, place, All, Sorted, InOrder}
 use Rattle.model.proofs.ListLaws.{cases, all-map, all-passed, all-place, sorted-place, keep-place, place-last, map-place}
 
 module _ {A : Type 0} where

@@ -18,7 +18,7 @@ use Rattle.model.specs.Directives.{effect}
 use Rattle.model.specs.Words.{over, links, read}
 use Rattle.model.specs.Sound.{sound}
 use Rattle.model.specs.Outcome.{Outcome, statusOn, written, outcome}
-use Rattle.model.specs.Demand.{after, laid, eventsAfter}
+use Rattle.model.specs.Demand.{after, eventsAfter}
 use Rattle.model.proofs.ListLaws.{cases, clash, all-map, all-append, all-keep, all-passed, all-zip, keep-none, count-snoc}
 use Rattle.model.proofs.Order.{order, orderOn, all-orderOn, order-in-order}
 use Rattle.model.proofs.ReadBack.{links-is}
@@ -222,29 +222,29 @@ clock-moves-no-tick d n g e = (refl, ap (remaining (g .begun .due)) (count-snoc 
 -- An accepted tick lists a start for n ticks, after which there were n - 1 ticks and nothing that ends it. The list that it was lent now
 -- begins with entries among which is the start's: its id, routine and data.
 pub tick-lists : (w : List ℕ) (n t : ℕ) → outcome w (layOut n t) .status ≡ 0 → (xs : List Call) (list : List ℕ) (P Q : List Event) (id timer k r u : ℕ)
-    → outcome (after (laid w n t) xs) (tick list) .status ≡ 0
-    → eventsAfter w n t xs ≡ P ++ (changes id (some (forTicks timer k r u)) ∷ Q) → any (ends timer) Q ≡ false → k ≡ suc (ticks Q)
-    → (fired : List Fired) × (outcome (after (laid w n t) xs) (tick list) .list ≡ written fired list)
+    → outcome (after w (layOut n t ∷ xs)) (tick list) .status ≡ 0
+    → eventsAfter w (layOut n t ∷ xs) ≡ P ++ (changes id (some (forTicks timer k r u)) ∷ Q) → any (ends timer) Q ≡ false → k ≡ suc (ticks Q)
+    → (fired : List Fired) × (outcome (after w (layOut n t ∷ xs)) (tick list) .list ≡ written fired list)
     × List·Memᴰ (record { id = timer; routine = r; userData = u }) fired
 tick-lists w n t ok xs list P Q id timer k r u accepted is quiet nth =
     let a = demand3 w n t ok (xs ++ (tick list ∷ [])) .answers xs [] (tick list) refl .lists accepted in
     let s = forTicks timer k r u in (
-      map entry (a .0 ++ a .1),
-      a .4,
-      Memᴰ·map entry (Memᴰ·append-left (a .1) (fires-listed ByTicks P Q id s oneTick (a .0) refl (at-nth-tick P Q id timer k r u quiet nth)
-          (subst (λ (es : List Event). InOrder dueAt (keep (inChain ByTicks) (keep (fires oneTick) (starts es))) (a .0)) is (a .2)))),
+      map entry (a .ticking ++ a .dated),
+      a .entries,
+      Memᴰ·map entry (Memᴰ·append-left (a .dated) (fires-listed ByTicks P Q id s oneTick (a .ticking) refl (at-nth-tick P Q id timer k r u quiet nth)
+          (subst (λ (es : List Event). InOrder dueAt (keep (inChain ByTicks) (keep (fires oneTick) (starts es))) (a .ticking)) is (a .ticking-order)))),
     )
 
 -- Each entry that any accepted call writes is that of a start that is due there, was not due before and was not ended.
 pub lists-only : (w : List ℕ) (n t : ℕ) → outcome w (layOut n t) .status ≡ 0 → (xs : List Call) (c : Call)
-    → outcome (after (laid w n t) xs) c .status ≡ 0 → (l : List Placed)
-    × (outcome (after (laid w n t) xs) c .list ≡ written (map entry l) (effect (read (after (laid w n t) xs)) c .lent))
-    × All (Listed (eventsAfter w n t xs) (eventOf (reverse (eventsAfter w n t xs)) c)) l
+    → outcome (after w (layOut n t ∷ xs)) c .status ≡ 0 → (l : List Placed)
+    × (outcome (after w (layOut n t ∷ xs)) c .list ≡ written (map entry l) (effect (read (after w (layOut n t ∷ xs))) c .lent))
+    × All (Listed (eventsAfter w (layOut n t ∷ xs)) (eventOf (reverse (eventsAfter w (layOut n t ∷ xs))) c)) l
 lists-only w n t ok xs c accepted =
-    let es = eventsAfter w n t xs in
+    let es = eventsAfter w (layOut n t ∷ xs) in
     let e = eventOf (reverse es) c in
     let a = demand3 w n t ok (xs ++ (c ∷ [])) .answers xs [] c refl .lists accepted in
-    (a .0 ++ a .1, a .4, all-append (Listed es e) (a .0) (a .1) (only-due ByTicks es e (a .0) (a .2)) (only-due ByDate es e (a .1) (a .3)))
+    (a .ticking ++ a .dated, a .entries, all-append (Listed es e) (a .ticking) (a .dated) (only-due ByTicks es e (a .ticking) (a .ticking-order)) (only-due ByDate es e (a .dated) (a .dated-order)))
 
 -- An accepted set clock leaves the interval chain as it is: the same slots in the same order, with the same ticks left.
 pub set-clock-keeps-ticks : (t : List ℕ) → sound t ≡ true → (w : WallTime) (list : List ℕ) → outcome t (setClock w list) .status ≡ 0

@@ -41,29 +41,30 @@ pub record Standing (t : List ℕ) (es : List Event) : Type 0 where
   -- Each waiting timer stands there once.
   pub once : (i : ℕ) → count (λ w. eqb (w .slot) i) (links ByTicks t) + count (λ w. eqb (w .slot) i) (links ByDate t) ≤ 1
 
--- What the call c has to do to the table t after these events; e is what it is, if accepted.
+-- What the accepted call c, which is the event e, has to list on the table t after these events: the timers that fire in it, those due in this
+-- call and not ended before, interval ones first, each kind in firing order. A tick and a set clock answer their number, any other call lists
+-- nothing, and there are never more than slots.
+pub record Lists (t : List ℕ) (es : List Event) (c : Call) (e : Event) : Type 0 where
+  pub ticking : List Placed
+  pub dated : List Placed
+  pub ticking-order : InOrder dueAt (keep (inChain ByTicks) (keep (fires e) (starts es))) ticking
+  pub dated-order : InOrder dueAt (keep (inChain ByDate) (keep (fires e) (starts es))) dated
+  pub entries : outcome t c .list ≡ written (map entry (ticking ++ dated)) (effect (read t) c .lent)
+  pub counted : moves e ≡ true → outcome t c .answer ≡ length (ticking ++ dated) ∷ []
+  pub quiet : moves e ≡ false → ticking ++ dated ≡ []
+  pub few : length (ticking ++ dated) ≤ word t 0
+
+-- A refused call changes no word and answers zero.
 pub record Answers (t : List ℕ) (es : List Event) (c : Call) (e : Event) : Type 0 where
-  -- The timers that fire are written to the list: those due in this call and not ended before, interval ones first, each kind in firing
-  -- order. A tick and a set clock answer their number. There are never more than slots. No other call lists anything.
-  pub lists : outcome t c .status ≡ 0 → (l : List Placed) × (m : List Placed)
-      × InOrder dueAt (keep (inChain ByTicks) (keep (fires e) (starts es))) l
-      × InOrder dueAt (keep (inChain ByDate) (keep (fires e) (starts es))) m
-      × (outcome t c .list ≡ written (map entry (l ++ m)) (effect (read t) c .lent))
-      × (moves e ≡ true → outcome t c .answer ≡ length (l ++ m) ∷ [])
-      × (moves e ≡ false → l ++ m ≡ [])
-      × (length (l ++ m) ≤ word t 0)
-  -- A refused call changes no word and answers zero.
+  pub lists : outcome t c .status ≡ 0 → Lists t es c e
   pub refuses : (outcome t c .status ≡ 0 → ⊥) → outcome t c ≡ refused (outcome t c .status) t c
 
--- the table that a lay out leaves, and what the accepted calls of xs after it mean
-abbrev pub laid : List ℕ → ℕ → ℕ → List ℕ
-laid w n t = outcome w (layOut n t) .table
+-- what the accepted calls of a list mean
+abbrev pub eventsAfter : List ℕ → List Call → List Event
+eventsAfter w cs = eventsFrom [] (acceptedIn w cs)
 
-abbrev pub eventsAfter : List ℕ → ℕ → ℕ → List Call → List Event
-eventsAfter w n t xs = eventsFrom [] (layOut n t ∷ acceptedIn (laid w n t) xs)
-
--- The demand for the whole list cs from the slice w, laid out for n and t: after every prefix, and in every call.
+-- The demand for the whole list cs after a lay out for n and t of the slice w: after every prefix, and in every call.
 pub record Demand3 (w : List ℕ) (n t : ℕ) (cs : List Call) : Type 0 where
-  pub standing : (xs ys : List Call) → xs ++ ys ≡ cs → Standing (after (laid w n t) xs) (eventsAfter w n t xs)
+  pub standing : (xs ys : List Call) → xs ++ ys ≡ cs → Standing (after w (layOut n t ∷ xs)) (eventsAfter w (layOut n t ∷ xs))
   pub answers : (xs ys : List Call) (c : Call) → xs ++ (c ∷ ys) ≡ cs →
-      Answers (after (laid w n t) xs) (eventsAfter w n t xs) c (eventOf (reverse (eventsAfter w n t xs)) c)
+      Answers (after w (layOut n t ∷ xs)) (eventsAfter w (layOut n t ∷ xs)) c (eventOf (reverse (eventsAfter w (layOut n t ∷ xs))) c)

@@ -32,8 +32,7 @@ abbrev pub refusals : Bool → State → Call → List Refusal
 refusals unsound s (layOut n t) =
     when InvalidNumber (not (allOf (leb 1 n ∷ leb n 255 ∷ leb 1 t ∷ leb t 1000 ∷ []))) ∷ when InvalidSize (ltb (s .room) (10 + 8 * n)) ∷ []
 refusals unsound s (create name) = when NotSound unsound ∷ when InvalidName (eqb name 0) ∷ when TooMany (eqb (lowestFree s) 0) ∷ []
-refusals unsound s (ident name) =
-    when NotSound unsound ∷ when InvalidName (eqb name 0) ∷ when InvalidName (eqb (lowestNamed s name) 0) ∷ []
+refusals unsound s (ident name) = when NotSound unsound ∷ when InvalidName (eqb name 0) ∷ when InvalidName (eqb (lowestNamed s name) 0) ∷ []
 refusals unsound s (cancel id) = when NotSound unsound ∷ when InvalidId (not (names s id)) ∷ []
 refusals unsound s (delete id) = when NotSound unsound ∷ when InvalidId (not (names s id)) ∷ []
 refusals unsound s (fireAfter id n r u) =
