@@ -282,6 +282,6 @@ pub fn ticks_to(t: &[u32], i: u32) -> u32
         return 0;
     }
     let p = get(t, i, PREVIOUS);
-    let before = ticks_to(t, p);
-    before + get(t, i, WAIT)
+    let wait = get(t, i, WAIT);
+    ticks_to(t, p) + wait
 }

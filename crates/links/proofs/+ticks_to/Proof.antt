@@ -45,20 +45,6 @@ ticks-to-get-requires t c κs =
     let s = c .before .before in
     (omega arith, before (s .args .t .now) (s .args .i) (s .pre .1) (c .if1 .left) .inside)
 
-ticks-to-ticks-to-requires : (t : ℕ) → ticks-to-lts.Need-ticks-to-requires (
-  get-reads.Asked,
-  get-reads.Learnt,
-  ticks-to-below t,
-  ticks-to.Post,
-) (ticks-to-at t) ticks-to.Post
-ticks-to-ticks-to-requires t c κs =
-    let s = c .before .before .before in
-    let b = before (s .args .t .now) (s .args .i) (s .pre .1) (c .before .if1 .left) in
-    rw (c .get .ensures) (
-      subst (λ (j : ℕ). position (field (s .args .t .now) 7 (s .args .i)) (read (s .args .t .now) .ticking) < j) (s .pre .0) (b .less),
-      (s .pre .1 .0, b .there),
-    )
-
 ticks-to-get-requires-2 : (t : ℕ) → ticks-to-lts.Need-get-requires-2 (
   get-reads.Asked,
   get-reads.Learnt,
@@ -66,9 +52,23 @@ ticks-to-get-requires-2 : (t : ℕ) → ticks-to-lts.Need-get-requires-2 (
   ticks-to.Post,
 ) (ticks-to-at t) ticks-to.Post
 ticks-to-get-requires-2 t c κs =
+    let s = c .before .before .before in
+    (omega arith, before (s .args .t .now) (s .args .i) (s .pre .1) (c .before .if1 .left) .inside)
+
+ticks-to-ticks-to-requires : (t : ℕ) → ticks-to-lts.Need-ticks-to-requires (
+  get-reads.Asked,
+  get-reads.Learnt,
+  ticks-to-below t,
+  ticks-to.Post,
+) (ticks-to-at t) ticks-to.Post
+ticks-to-ticks-to-requires t c κs =
     let d = c .before .before in
     let s = d .before .before in
-    (omega arith, before (s .args .t .now) (s .args .i) (s .pre .1) (d .if1 .left) .inside)
+    let b = before (s .args .t .now) (s .args .i) (s .pre .1) (d .if1 .left) in
+    rw (c .before .get .ensures) (
+      subst (λ (j : ℕ). position (field (s .args .t .now) 7 (s .args .i)) (read (s .args .t .now) .ticking) < j) (s .pre .0) (b .less),
+      (s .pre .1 .0, b .there),
+    )
 
 ticks-to-add-result : (t : ℕ) → ticks-to-lts.Need-add-result (
   get-reads.Asked,
@@ -80,8 +80,8 @@ ticks-to-add-result t c =
     let d = c .before .before .before in
     let s = d .before .before in
     let b = before (s .args .t .now) (s .args .i) (s .pre .1) (d .if1 .left) in
-    let e = rw (c .before .before .get .ensures) at (c .before .ticks-to .ensures) in
-    omega (arith, b .sum, b .fits, e, c .get2 .ensures, d .before .shared-slice-known .given (2 + 8 * (s .args .i) + 2) .fits)
+    let e = rw (c .before .before .get .ensures) at (c .ticks-to .ensures) in
+    omega (arith, b .sum, b .fits, e, c .before .get2 .ensures, d .before .shared-slice-known .given (2 + 8 * (s .args .i) + 2) .fits)
 
 ticks-to-returns-2 : (t : ℕ) → ticks-to-lts.Need-returns-2 (
   get-reads.Asked,
@@ -93,8 +93,8 @@ ticks-to-returns-2 t c =
     let d = c .before .before .before in
     let s = d .before .before in
     let b = before (s .args .t .now) (s .args .i) (s .pre .1) (d .if1 .left) in
-    let e = rw (c .before .before .get .ensures) at (c .before .ticks-to .ensures) in
-    omega (arith, b .sum, e, c .get2 .ensures)
+    let e = rw (c .before .before .get .ensures) at (c .ticks-to .ensures) in
+    omega (arith, b .sum, e, c .before .get2 .ensures)
 
 pub +ticks-to-spec : {M : Type 1} → statement M
 +ticks-to-spec = close μ-ticks-to λ t. ticks-to-lts.spec (
@@ -107,7 +107,7 @@ pub +ticks-to-spec : {M : Type 1} → statement M
     ticks-to.Post
     (ticks-to-returns t)
     (ticks-to-get-requires t)
-    (ticks-to-ticks-to-requires t)
     (ticks-to-get-requires-2 t)
+    (ticks-to-ticks-to-requires t)
     (ticks-to-add-result t)
     (ticks-to-returns-2 t)
