@@ -1,0 +1,54 @@
+// The session of document 01: two timers of a table of three wait for five ticks each, and fire together at the fifth. Prints one line a call:
+// status, a space, answer, both in decimal.
+use timer::Answer;
+
+const SLOTS: u32 = 3;
+
+const TICKS_PER_SECOND: u32 = 10;
+
+// The words of a table and of a fired list for three slots.
+const TABLE: usize = 34;
+
+const LIST: usize = 9;
+
+// Prints a line.
+fn print(status: u32, number: u32) {
+    io::print_decimal(libc::STDOUT_FILENO, status as u64);
+    io::write_all(libc::STDOUT_FILENO, b" ");
+    io::print_decimal(libc::STDOUT_FILENO, number as u64);
+    io::write_all(libc::STDOUT_FILENO, b"\n");
+}
+
+// Prints the line of an answer, and gives its number.
+fn line(answer: Answer) -> u32 {
+    match answer {
+        Answer::Done(number) => {
+            print(status::SUCCESSFUL, number);
+            number
+        }
+        Answer::Refused(refusal) => {
+            print(status::number_of(refusal), 0);
+            0
+        }
+    }
+}
+
+// The two timers start: for 5 ticks each.
+fn start_both(table: &mut [u32]) {
+    line(timer::lay_out(table, SLOTS, TICKS_PER_SECOND));
+    let first = line(timer::create(table, 1));
+    let second = line(timer::create(table, 2));
+    line(timer::fire_after(table, first, 5, 7, 70));
+    line(timer::fire_after(table, second, 5, 8, 80));
+}
+
+fn main() {
+    let mut table = [0u32; TABLE];
+    let mut fired = [0u32; LIST];
+    start_both(&mut table);
+    line(timer::tick(&mut table, &mut fired));
+    line(timer::tick(&mut table, &mut fired));
+    line(timer::tick(&mut table, &mut fired));
+    line(timer::tick(&mut table, &mut fired));
+    line(timer::tick(&mut table, &mut fired));
+}

@@ -1,0 +1,22 @@
+use borrow.Author.Needs.{needs}
+use mathlib.Core.Path.{refl}
+use Rattle.timer_c.proofs.Exported.{answers-none}
+use Rattle.timer_c.proofs.hc_delete.Statement.{statement}
+use Rattle.timer_c.proofs.hc_delete.Tie as tie
+
+delete-requires : tie.Need-delete-requires
+delete-requires c κs = search needs
+
+status-of-requires : tie.Need-status-of-requires
+status-of-requires c κs = search needs
+
+same-length : tie.Need-same-length
+same-length c = search needs
+
+returns : tie.Need-returns
+returns c =
+    let call = c .before .before .before .delete in
+    answers-none _ _ _ _ (call .result) _ refl (c .status-of .ensures) (call .ensures)
+
+pub hc-delete-spec : {M : Type 1} → statement M
+hc-delete-spec = tie.close (tie.spec delete-requires status-of-requires same-length returns)

@@ -1,0 +1,23 @@
+use borrow.Author.Needs.{needs}
+use mathlib.Core.Path.{refl}
+use Rattle.timer_c.proofs.Exported.{answers-none}
+use Rattle.timer_c.proofs.hc_fire_after.Statement.{statement}
+use Rattle.timer_c.proofs.hc_fire_after.Tie as tie
+
+fire-after-requires : tie.Need-fire-after-requires
+fire-after-requires c κs = search needs
+
+status-of-requires : tie.Need-status-of-requires
+status-of-requires c κs = search needs
+
+same-length : tie.Need-same-length
+same-length c = search needs
+
+returns : tie.Need-returns
+returns c =
+    let call = c .before .before .before .fire-after in
+    answers-none _ _ _ _ (call .result) _ refl (c .status-of .ensures) (call .ensures)
+
+pub hc-fire-after-spec : {M : Type 1} → statement M
+hc-fire-after-spec =
+    tie.close (tie.spec fire-after-requires status-of-requires same-length returns)

@@ -1,0 +1,21 @@
+use borrow.Author.Needs.{needs}
+use Rattle.timer_c.proofs.Exported.{answers}
+use Rattle.timer_c.proofs.hc_ident.Statement.{statement}
+use Rattle.timer_c.proofs.hc_ident.Tie as tie
+
+ident-requires : tie.Need-ident-requires
+ident-requires c κs = search needs
+
+number-in-requires : tie.Need-number-in-requires
+number-in-requires c κs = search needs
+
+status-of-requires : tie.Need-status-of-requires
+status-of-requires c κs = search needs
+
+returns : tie.Need-returns
+returns c =
+    let call = c .before .before .ident in
+    answers _ _ _ _ (call .result) _ _ (c .status-of .ensures) (c .before .number-in .ensures) (call .ensures)
+
+pub hc-ident-spec : {M : Type 1} → statement M
+hc-ident-spec = tie.close (tie.spec ident-requires number-in-requires status-of-requires returns)
