@@ -1,0 +1,500 @@
+/* The calls of include/heathcinder.h in plain C, written for speed: what bench.c measures the library against.
+ * tests/faults/ breaks copies of this file, one fault each, by the lines it finds here. */
+#include "baseline.h"
+
+#include <stdbool.h>
+#include <string.h>
+
+/* Limits, header words, slot words and kinds; include/heathcinder.h draws the table. */
+enum { MAX_SLOTS = 255, MAX_TICKS_PER_SECOND = 1000, FIRED_WORDS = 3 };
+enum { SLOTS, TICKS_PER_SECOND, CLOCK_SET, SECONDS, CLOCK_TICKS, FIRST_TICKING, FIRST_DATED, ZEROS };
+enum { HEADER_WORDS = 10, SLOT_WORDS = 8 };
+enum { KIND, NAME, INTERVAL, WAIT, ROUTINE, DATA, NEXT, PREVIOUS };
+enum { FREE, NEVER_STARTED, IDLE_TICKING, IDLE_DATED, TICKING, DATED };
+enum { IDLE_OF_WAITING = TICKING - IDLE_TICKING };
+
+#define ID_BASE 0x12010000u
+#define LAST_SECOND 3534451199u
+
+enum { FIRST_YEAR = 1988, LAST_YEAR = 2099, LEAP_CYCLE = 4, DAYS_OF_CYCLE = 1461, DAYS_OF_YEAR = 365 };
+enum { MINUTE = 60, HOUR = 3600, DAY = 86400 };
+
+/* Days before each month of a common and of a leap year, and the whole year's. */
+static const uint16_t days_before[2][13] = {
+    {0, 31, 59, 90, 120, 151, 181, 212, 243, 273, 304, 334, 365},
+    {0, 31, 60, 91, 121, 152, 182, 213, 244, 274, 305, 335, 366},
+};
+
+static inline uint32_t *slot(uint32_t *table, uint32_t index)
+{
+    return table + HEADER_WORDS + (size_t)SLOT_WORDS * (index - 1);
+}
+
+static inline const uint32_t *slot_of(const uint32_t *table, uint32_t index)
+{
+    return table + HEADER_WORDS + (size_t)SLOT_WORDS * (index - 1);
+}
+
+/* Two words next to each other, for comparing both with zero at once. */
+static inline uint64_t pair(const uint32_t *words)
+{
+    uint64_t both;
+    memcpy(&both, words, sizeof both);
+    return both;
+}
+
+static inline bool header_sound(const uint32_t *table, size_t words)
+{
+    if (words < HEADER_WORDS)
+        return false;
+    if (table[SLOTS] < 1 || table[SLOTS] > MAX_SLOTS)
+        return false;
+    if (words < HEADER_WORDS + SLOT_WORDS * table[SLOTS])
+        return false;
+    if (table[TICKS_PER_SECOND] < 1 || table[TICKS_PER_SECOND] > MAX_TICKS_PER_SECOND)
+        return false;
+    if (table[SECONDS] > LAST_SECOND)
+        return false;
+    if (table[CLOCK_TICKS] >= table[TICKS_PER_SECOND])
+        return false;
+    if (table[ZEROS] | table[ZEROS + 1] | table[ZEROS + 2])
+        return false;
+    if (table[CLOCK_SET] == 0)
+        return (table[SECONDS] | table[CLOCK_TICKS] | table[FIRST_DATED]) == 0;
+    return table[CLOCK_SET] == 1;
+}
+
+/* How far the check has gone along one chain: the next slot, the one before it, and the sum of ticks or the date. */
+struct walk {
+    uint32_t at, previous;
+    uint64_t reached;
+};
+
+/* One step along the interval chain. Ticks left from 1 up to the interval make the interval 1 or more besides. The kind
+ * need not be looked at: of other kinds only 2 has an interval, and its wait and previous link are 0, so that it neither
+ * is the first here nor comes after another. */
+static inline bool step_ticking(const uint32_t *table, struct walk *walk)
+{
+    if (walk->at - 1 >= table[SLOTS])
+        return false;
+    const uint32_t *s = slot_of(table, walk->at);
+    if (s[PREVIOUS] != walk->previous)
+        return false;
+    walk->reached += s[WAIT];
+    if (walk->reached < 1)
+        return false;
+    if (walk->reached > s[INTERVAL])
+        return false;
+    walk->previous = walk->at;
+    walk->at = s[NEXT];
+    return true;
+}
+
+/* One step along the dated chain. */
+static inline bool step_dated(const uint32_t *table, struct walk *walk)
+{
+    if (walk->at - 1 >= table[SLOTS])
+        return false;
+    const uint32_t *s = slot_of(table, walk->at);
+    if (s[KIND] != DATED)
+        return false;
+    if (s[PREVIOUS] != walk->previous)
+        return false;
+    if (s[WAIT] < walk->reached)
+        return false;
+    if (s[WAIT] > LAST_SECOND)
+        return false;
+    walk->reached = s[WAIT];
+    walk->previous = walk->at;
+    walk->at = s[NEXT];
+    return true;
+}
+
+/* The slot's own words; a waiting one pays for one step along its kind's chain. */
+static inline bool slot_sound(const uint32_t *table, const uint32_t *s, struct walk *ticking, struct walk *dated)
+{
+    if (s[KIND] <= NEVER_STARTED) {
+        if (pair(s + INTERVAL) | pair(s + ROUTINE) | pair(s + NEXT))
+            return false;
+        return (s[NAME] != 0) == s[KIND];
+    }
+    if (s[NAME] == 0 || s[ROUTINE] == 0)
+        return false;
+    if (s[KIND] == TICKING)
+        return step_ticking(table, ticking);
+    if (s[KIND] == DATED)
+        return s[INTERVAL] == 0 && step_dated(table, dated);
+    if (s[WAIT] | pair(s + NEXT))
+        return false;
+    if (s[KIND] > IDLE_DATED)
+        return false;
+    return (s[INTERVAL] != 0) == (s[KIND] == IDLE_TICKING);
+}
+
+/* One pass over the slots, and with it one along each chain. Previous links that fit let no slot come twice, so as many
+ * steps as slots of the kind, ending at 0, meet each of them once. */
+static bool sound(const uint32_t *table, size_t words)
+{
+    if (!header_sound(table, words))
+        return false;
+    struct walk ticking = {table[FIRST_TICKING], 0, 0};
+    struct walk dated = {table[FIRST_DATED], 0, (uint64_t)table[SECONDS] + 1};
+    const uint32_t *end = table + HEADER_WORDS + SLOT_WORDS * table[SLOTS];
+    for (const uint32_t *s = table + HEADER_WORDS; s < end; s += SLOT_WORDS)
+        if (!slot_sound(table, s, &ticking, &dated))
+            return false;
+    return (ticking.at | dated.at) == 0;
+}
+
+/* The slot of the timer that the id names; 0 if it names none. */
+static inline uint32_t named(const uint32_t *table, uint32_t id)
+{
+    uint32_t index = id - ID_BASE;
+    if (index - 1 >= table[SLOTS])
+        return 0;
+    return slot_of(table, index)[KIND] == FREE ? 0 : index;
+}
+
+/* The lowest slot whose word is this; 0 if there is none. */
+static inline uint32_t lowest(const uint32_t *table, int word, uint32_t value)
+{
+    for (uint32_t i = 1; i <= table[SLOTS]; i++)
+        if (slot_of(table, i)[word] == value)
+            return i;
+    return 0;
+}
+
+static inline uint32_t is_leap(uint32_t year)
+{
+    return year % LEAP_CYCLE == 0;
+}
+
+static bool valid(const struct hc_wall_time *time)
+{
+    if (time->year < FIRST_YEAR || time->year > LAST_YEAR)
+        return false;
+    if (time->month < 1 || time->month > 12)
+        return false;
+    const uint16_t *before = days_before[is_leap(time->year)];
+    if (time->day < 1 || time->day > (uint32_t)(before[time->month] - before[time->month - 1]))
+        return false;
+    return time->hour <= 23 && time->minute <= 59 && time->second <= 59;
+}
+
+static uint32_t seconds_of(const struct hc_wall_time *time)
+{
+    uint32_t years = time->year - FIRST_YEAR;
+    uint32_t days = years * DAYS_OF_YEAR + (years + LEAP_CYCLE - 1) / LEAP_CYCLE;
+    days += days_before[is_leap(time->year)][time->month - 1] + time->day - 1;
+    return days * DAY + time->hour * HOUR + time->minute * MINUTE + time->second;
+}
+
+static void date_of(uint32_t seconds, struct hc_wall_time *time)
+{
+    uint32_t days = seconds / DAY, rest = seconds % DAY;
+    uint32_t day = days % DAYS_OF_CYCLE, year = 0;
+    if (day > DAYS_OF_YEAR) {
+        year = (day - 1) / DAYS_OF_YEAR;
+        day = (day - 1) % DAYS_OF_YEAR;
+    }
+    const uint16_t *before = days_before[year == 0];
+    uint32_t month = day / 32;
+    month += day >= before[month + 1];
+    time->year = FIRST_YEAR + days / DAYS_OF_CYCLE * LEAP_CYCLE + year;
+    time->month = month + 1;
+    time->day = day - before[month] + 1;
+    time->hour = rest / HOUR;
+    time->minute = rest % HOUR / MINUTE;
+    time->second = rest % MINUTE;
+}
+
+/* A waiting timer becomes idle of its kind and leaves its chain; any other stays. */
+static void stop(uint32_t *table, uint32_t index)
+{
+    uint32_t *s = slot(table, index);
+    if (s[KIND] < TICKING)
+        return;
+    uint32_t next = s[NEXT], previous = s[PREVIOUS];
+    uint32_t *link = s[KIND] == TICKING ? &table[FIRST_TICKING] : &table[FIRST_DATED];
+    if (previous)
+        link = &slot(table, previous)[NEXT];
+    *link = next;
+    if (next) {
+        slot(table, next)[PREVIOUS] = previous;
+        if (s[KIND] == TICKING)
+            slot(table, next)[WAIT] += s[WAIT];
+    }
+    s[KIND] -= IDLE_OF_WAITING;
+    s[WAIT] = 0;
+    s[NEXT] = 0;
+    s[PREVIOUS] = 0;
+}
+
+static inline void link_between(uint32_t *table, uint32_t first, uint32_t previous, uint32_t index, uint32_t next)
+{
+    if (previous)
+        slot(table, previous)[NEXT] = index;
+    else
+        table[first] = index;
+    if (next)
+        slot(table, next)[PREVIOUS] = index;
+    slot(table, index)[NEXT] = next;
+    slot(table, index)[PREVIOUS] = previous;
+}
+
+/* An idle timer waits for so many ticks, behind every one due at the same tick. */
+static void start_ticking(uint32_t *table, uint32_t index, uint32_t ticks)
+{
+    uint32_t previous = 0, next = table[FIRST_TICKING], left = ticks;
+    while (next && slot(table, next)[WAIT] <= left) {
+        left -= slot(table, next)[WAIT];
+        previous = next;
+        next = slot(table, next)[NEXT];
+    }
+    link_between(table, FIRST_TICKING, previous, index, next);
+    if (next)
+        slot(table, next)[WAIT] -= left;
+    slot(table, index)[KIND] = TICKING;
+    slot(table, index)[INTERVAL] = ticks;
+    slot(table, index)[WAIT] = left;
+}
+
+/* An idle timer waits for a date, behind every one of the same date. */
+static void start_dated(uint32_t *table, uint32_t index, uint32_t date)
+{
+    uint32_t previous = 0, next = table[FIRST_DATED];
+    while (next && slot(table, next)[WAIT] <= date) {
+        previous = next;
+        next = slot(table, next)[NEXT];
+    }
+    link_between(table, FIRST_DATED, previous, index, next);
+    slot(table, index)[KIND] = DATED;
+    slot(table, index)[INTERVAL] = 0;
+    slot(table, index)[WAIT] = date;
+}
+
+/* Fires the chain's timers whose wait is no more than due, and gives how many; the list begins at fired. */
+static uint32_t fire(uint32_t *table, uint32_t first, uint32_t due, uint32_t *fired)
+{
+    uint32_t index = table[first], count = 0;
+    while (index && slot(table, index)[WAIT] <= due) {
+        uint32_t *s = slot(table, index);
+        fired[FIRED_WORDS * count] = ID_BASE + index;
+        fired[FIRED_WORDS * count + 1] = s[ROUTINE];
+        fired[FIRED_WORDS * count + 2] = s[DATA];
+        count++;
+        index = s[NEXT];
+        s[KIND] -= IDLE_OF_WAITING;
+        s[WAIT] = 0;
+        s[NEXT] = 0;
+        s[PREVIOUS] = 0;
+    }
+    table[first] = index;
+    if (index)
+        slot(table, index)[PREVIOUS] = 0;
+    return count;
+}
+
+/* The clock goes one tick on; true when a new second begins. At its last tick it stands still. */
+static bool advance_clock(uint32_t *table)
+{
+    if (!table[CLOCK_SET])
+        return false;
+    if (table[CLOCK_TICKS] + 1 < table[TICKS_PER_SECOND]) {
+        table[CLOCK_TICKS]++;
+        return false;
+    }
+    if (table[SECONDS] == LAST_SECOND)
+        return false;
+    table[CLOCK_TICKS] = 0;
+    table[SECONDS]++;
+    return true;
+}
+
+uint32_t CALL(lay_out)(uint32_t *table, size_t words, uint32_t slots, uint32_t ticks_per_second)
+{
+    if (slots < 1 || slots > MAX_SLOTS)
+        return HC_INVALID_NUMBER;
+    if (ticks_per_second < 1 || ticks_per_second > MAX_TICKS_PER_SECOND)
+        return HC_INVALID_NUMBER;
+    if (words < HEADER_WORDS + SLOT_WORDS * slots)
+        return HC_INVALID_SIZE;
+    memset(table, 0, (HEADER_WORDS + SLOT_WORDS * slots) * sizeof *table);
+    table[SLOTS] = slots;
+    table[TICKS_PER_SECOND] = ticks_per_second;
+    return HC_SUCCESSFUL;
+}
+
+uint32_t CALL(create)(uint32_t *table, size_t words, uint32_t name, uint32_t *id)
+{
+    *id = 0;
+    if (!sound(table, words))
+        return HC_NOT_SOUND;
+    if (name == 0)
+        return HC_INVALID_NAME;
+    uint32_t index = lowest(table, KIND, FREE);
+    if (index == 0)
+        return HC_TOO_MANY;
+    slot(table, index)[KIND] = NEVER_STARTED;
+    slot(table, index)[NAME] = name;
+    *id = ID_BASE + index;
+    return HC_SUCCESSFUL;
+}
+
+uint32_t CALL(ident)(const uint32_t *table, size_t words, uint32_t name, uint32_t *id)
+{
+    *id = 0;
+    if (!sound(table, words))
+        return HC_NOT_SOUND;
+    if (name == 0)
+        return HC_INVALID_NAME;
+    uint32_t index = lowest(table, NAME, name);
+    if (index == 0)
+        return HC_INVALID_NAME;
+    *id = ID_BASE + index;
+    return HC_SUCCESSFUL;
+}
+
+uint32_t CALL(cancel)(uint32_t *table, size_t words, uint32_t id)
+{
+    if (!sound(table, words))
+        return HC_NOT_SOUND;
+    uint32_t index = named(table, id);
+    if (index == 0)
+        return HC_INVALID_ID;
+    stop(table, index);
+    return HC_SUCCESSFUL;
+}
+
+uint32_t CALL(delete)(uint32_t *table, size_t words, uint32_t id)
+{
+    if (!sound(table, words))
+        return HC_NOT_SOUND;
+    uint32_t index = named(table, id);
+    if (index == 0)
+        return HC_INVALID_ID;
+    stop(table, index);
+    memset(slot(table, index), 0, SLOT_WORDS * sizeof *table);
+    return HC_SUCCESSFUL;
+}
+
+uint32_t CALL(fire_after)(uint32_t *table, size_t words, uint32_t id, uint32_t ticks, uint32_t routine, uint32_t data)
+{
+    if (!sound(table, words))
+        return HC_NOT_SOUND;
+    if (ticks == 0)
+        return HC_INVALID_NUMBER;
+    if (routine == 0)
+        return HC_INVALID_ADDRESS;
+    uint32_t index = named(table, id);
+    if (index == 0)
+        return HC_INVALID_ID;
+    stop(table, index);
+    slot(table, index)[ROUTINE] = routine;
+    slot(table, index)[DATA] = data;
+    start_ticking(table, index, ticks);
+    return HC_SUCCESSFUL;
+}
+
+uint32_t CALL(fire_when)(uint32_t *table, size_t words, uint32_t id, const struct hc_wall_time *when, uint32_t routine,
+                         uint32_t data)
+{
+    if (!sound(table, words))
+        return HC_NOT_SOUND;
+    if (!table[CLOCK_SET])
+        return HC_NOT_DEFINED;
+    if (routine == 0)
+        return HC_INVALID_ADDRESS;
+    if (!valid(when))
+        return HC_INVALID_CLOCK;
+    uint32_t date = seconds_of(when);
+    if (date <= table[SECONDS])
+        return HC_INVALID_CLOCK;
+    uint32_t index = named(table, id);
+    if (index == 0)
+        return HC_INVALID_ID;
+    stop(table, index);
+    slot(table, index)[ROUTINE] = routine;
+    slot(table, index)[DATA] = data;
+    start_dated(table, index, date);
+    return HC_SUCCESSFUL;
+}
+
+uint32_t CALL(reset)(uint32_t *table, size_t words, uint32_t id)
+{
+    if (!sound(table, words))
+        return HC_NOT_SOUND;
+    uint32_t index = named(table, id);
+    if (index == 0)
+        return HC_INVALID_ID;
+    uint32_t kind = slot(table, index)[KIND];
+    if (kind != IDLE_TICKING && kind != TICKING)
+        return HC_NOT_DEFINED;
+    stop(table, index);
+    start_ticking(table, index, slot(table, index)[INTERVAL]);
+    return HC_SUCCESSFUL;
+}
+
+uint32_t CALL(ticks_left)(const uint32_t *table, size_t words, uint32_t id, uint32_t *ticks)
+{
+    *ticks = 0;
+    if (!sound(table, words))
+        return HC_NOT_SOUND;
+    uint32_t index = named(table, id);
+    if (index == 0)
+        return HC_INVALID_ID;
+    if (slot_of(table, index)[KIND] != TICKING)
+        return HC_SUCCESSFUL;
+    uint32_t left = 0;
+    for (uint32_t i = index; i; i = slot_of(table, i)[PREVIOUS])
+        left += slot_of(table, i)[WAIT];
+    *ticks = left;
+    return HC_SUCCESSFUL;
+}
+
+uint32_t CALL(tick)(uint32_t *table, size_t words, uint32_t *fired, size_t fired_words, uint32_t *count)
+{
+    *count = 0;
+    if (!sound(table, words))
+        return HC_NOT_SOUND;
+    if (fired_words < FIRED_WORDS * table[SLOTS])
+        return HC_LIST_TOO_SHORT;
+    uint32_t done = 0;
+    if (table[FIRST_TICKING]) {
+        slot(table, table[FIRST_TICKING])[WAIT]--;
+        done = fire(table, FIRST_TICKING, 0, fired);
+    }
+    if (advance_clock(table))
+        done += fire(table, FIRST_DATED, table[SECONDS], fired + FIRED_WORDS * done);
+    *count = done;
+    return HC_SUCCESSFUL;
+}
+
+uint32_t CALL(set_clock)(uint32_t *table, size_t words, const struct hc_wall_time *now, uint32_t *fired,
+                         size_t fired_words, uint32_t *count)
+{
+    *count = 0;
+    if (!sound(table, words))
+        return HC_NOT_SOUND;
+    if (fired_words < FIRED_WORDS * table[SLOTS])
+        return HC_LIST_TOO_SHORT;
+    if (!valid(now))
+        return HC_INVALID_CLOCK;
+    table[CLOCK_SET] = 1;
+    table[SECONDS] = seconds_of(now);
+    table[CLOCK_TICKS] = 0;
+    *count = fire(table, FIRST_DATED, table[SECONDS], fired);
+    return HC_SUCCESSFUL;
+}
+
+uint32_t CALL(get_clock)(const uint32_t *table, size_t words, struct hc_wall_time *now)
+{
+    memset(now, 0, sizeof *now);
+    if (!sound(table, words))
+        return HC_NOT_SOUND;
+    if (!table[CLOCK_SET])
+        return HC_NOT_DEFINED;
+    date_of(table[SECONDS], now);
+    now->ticks = table[CLOCK_TICKS];
+    return HC_SUCCESSFUL;
+}

@@ -1,0 +1,29 @@
+/* The calls of include/heathcinder.h in plain C, under the prefix plain_ or another one. */
+#ifndef BASELINE_H
+#define BASELINE_H
+
+#include "heathcinder.h"
+
+#ifndef BASELINE_PREFIX
+#define BASELINE_PREFIX plain_
+#endif
+#define BASELINE_JOIN2(prefix, name) prefix##name
+#define BASELINE_JOIN(prefix, name) BASELINE_JOIN2(prefix, name)
+#define CALL(name) BASELINE_JOIN(BASELINE_PREFIX, name)
+
+uint32_t CALL(lay_out)(uint32_t *table, size_t words, uint32_t slots, uint32_t ticks_per_second);
+uint32_t CALL(create)(uint32_t *table, size_t words, uint32_t name, uint32_t *id);
+uint32_t CALL(ident)(const uint32_t *table, size_t words, uint32_t name, uint32_t *id);
+uint32_t CALL(cancel)(uint32_t *table, size_t words, uint32_t id);
+uint32_t CALL(delete)(uint32_t *table, size_t words, uint32_t id);
+uint32_t CALL(fire_after)(uint32_t *table, size_t words, uint32_t id, uint32_t ticks, uint32_t routine, uint32_t data);
+uint32_t CALL(fire_when)(uint32_t *table, size_t words, uint32_t id, const struct hc_wall_time *when, uint32_t routine,
+                         uint32_t data);
+uint32_t CALL(reset)(uint32_t *table, size_t words, uint32_t id);
+uint32_t CALL(ticks_left)(const uint32_t *table, size_t words, uint32_t id, uint32_t *ticks);
+uint32_t CALL(tick)(uint32_t *table, size_t words, uint32_t *fired, size_t fired_words, uint32_t *count);
+uint32_t CALL(set_clock)(uint32_t *table, size_t words, const struct hc_wall_time *now, uint32_t *fired,
+                         size_t fired_words, uint32_t *count);
+uint32_t CALL(get_clock)(const uint32_t *table, size_t words, struct hc_wall_time *now);
+
+#endif

@@ -1,0 +1,121 @@
+/* Heathcinder: a timer manager over a table of 32-bit words that the caller lends.
+ *
+ * The library keeps nothing of its own: all there is to know stands in the table. Every call but hc_lay_out
+ * begins by checking that the table is sound, and a refused call changes nothing.
+ *
+ * The table: a header of 10 words, then 8 words for each slot. Slot indexes run from 1; link 0 means none.
+ *
+ *     word 0  slots N, 1 to 255                    slot word 0  kind
+ *          1  ticks in a second T, 1 to 1000                 1  name
+ *          2  clock set, 0 or 1                              2  interval in ticks
+ *          3  seconds since 1988-01-01 00:00:00              3  wait: ticks after the slot before it in its
+ *          4  ticks into the second, below T                    chain (kind 4), or a date in seconds (kind 5)
+ *          5  first slot of the interval chain               4  routine
+ *          6  first slot of the dated chain                  5  user data
+ *          7  to 9: zero                                     6  next slot in its chain
+ *         10  slot 1, then the others                        7  previous slot in its chain
+ *
+ *     kind 0  free                                 kind 3  idle, last started by date
+ *          1  never started                             4  waiting for ticks
+ *          2  idle, last started by interval            5  waiting for a date
+ *
+ * Words past 10 + 8N are neither read nor changed.
+ *
+ * What the caller must see to:
+ *   - No pointer is null, and each is aligned for its type.
+ *   - A length is true: that many words may be read, and written where the pointer is not to const.
+ *   - The table, the fired list, the wall time and the word for an answer do not overlap.
+ *   - Nobody else reads or writes them during a call. A call from an interrupt needs a lock of the caller's.
+ */
+#ifndef HEATHCINDER_H
+#define HEATHCINDER_H
+
+#include <stddef.h>
+#include <stdint.h>
+
+#ifdef __cplusplus
+extern "C" {
+#endif
+
+/* Statuses. Those below 100 are RTEMS's numbers under RTEMS's names. */
+#define HC_SUCCESSFUL 0u       /* accepted */
+#define HC_INVALID_NAME 3u     /* create, ident: name 0; ident: no timer has that name */
+#define HC_INVALID_ID 4u       /* the id names no timer */
+#define HC_TOO_MANY 5u         /* create: no slot is free */
+#define HC_INVALID_SIZE 8u     /* lay out: fewer than 10 + 8N words */
+#define HC_INVALID_ADDRESS 9u  /* fire after, fire when: routine 0 */
+#define HC_INVALID_NUMBER 10u  /* fire after: ticks 0; lay out: N or T outside its limits */
+#define HC_NOT_DEFINED 11u     /* fire when, get clock: clock not set; reset: not last started by interval */
+#define HC_INVALID_CLOCK 20u   /* set clock, fire when: no such date; fire when: not after the present second */
+#define HC_NOT_SOUND 100u      /* any call but lay out: the table is not sound */
+#define HC_LIST_TOO_SHORT 101u /* tick, set clock: fewer than 3N words of list */
+
+/* Words that a table of so many slots takes, and words of list that a tick or set clock on it needs. */
+#define HC_TABLE_WORDS(slots) (10u + 8u * (slots))
+#define HC_LIST_WORDS(slots) (3u * (slots))
+
+/* Years 1988 to 2099. The ticks field is ignored wherever a wall time is given, and filled by hc_get_clock. */
+struct hc_wall_time {
+    uint32_t year, month, day, hour, minute, second, ticks;
+};
+
+/* Each call gives its status as the result, the first that applies in the order named. An answer goes through
+ * the last pointer; on a refusal it is 0 and table and list stay as they were. */
+
+/* Makes a table of so many free slots, clock not set; words is the length lent.
+ * 10 slots not 1 to 255 or ticks_per_second not 1 to 1000; 8 fewer than HC_TABLE_WORDS(slots) words. */
+uint32_t hc_lay_out(uint32_t *table, size_t words, uint32_t slots, uint32_t ticks_per_second);
+
+/* Takes the lowest free slot for a timer of this name and answers its id. Equal names are allowed.
+ * 100; 3 name 0; 5 no slot is free. */
+uint32_t hc_create(uint32_t *table, size_t words, uint32_t name, uint32_t *id);
+
+/* Answers the id of the lowest slot with this name.
+ * 100; 3 name 0 or no such name. */
+uint32_t hc_ident(const uint32_t *table, size_t words, uint32_t name, uint32_t *id);
+
+/* Stops a waiting timer; any other stays as it is, and that is no refusal.
+ * 100; 4 no such timer. */
+uint32_t hc_cancel(uint32_t *table, size_t words, uint32_t id);
+
+/* Stops the timer if it waits, and frees its slot. The id may name a later timer.
+ * 100; 4 no such timer. */
+uint32_t hc_delete(uint32_t *table, size_t words, uint32_t id);
+
+/* Starts the timer, anew if it waits: it fires in the ticks-th tick from now, after those due at the same tick.
+ * 100; 10 ticks 0; 9 routine 0; 4 no such timer. */
+uint32_t hc_fire_after(uint32_t *table, size_t words, uint32_t id, uint32_t ticks, uint32_t routine,
+                       uint32_t data);
+
+/* Starts the timer, anew if it waits: it fires when the clock reaches that date, after those of the same date.
+ * 100; 11 clock not set; 9 routine 0; 20 no such date, or not after the present second; 4 no such timer. */
+uint32_t hc_fire_when(uint32_t *table, size_t words, uint32_t id, const struct hc_wall_time *when,
+                      uint32_t routine, uint32_t data);
+
+/* Starts a timer last started by interval again, with the same ticks, routine and data.
+ * 100; 4 no such timer; 11 never started, or last started by date. */
+uint32_t hc_reset(uint32_t *table, size_t words, uint32_t id);
+
+/* Answers the ticks until the timer fires; 0 if it does not wait for ticks.
+ * 100; 4 no such timer. */
+uint32_t hc_ticks_left(const uint32_t *table, size_t words, uint32_t id, uint32_t *ticks);
+
+/* One tick passes. Writes id, routine and user data of each timer that fires to the list, in firing order, and
+ * answers how many; list words after those stay.
+ * 100; 101 fewer than HC_LIST_WORDS(N) words of list. */
+uint32_t hc_tick(uint32_t *table, size_t words, uint32_t *fired, size_t fired_words, uint32_t *count);
+
+/* Sets the clock. Dated timers at or before the new second fire now, listed as by hc_tick.
+ * 100; 101 fewer than HC_LIST_WORDS(N) words of list; 20 no such date. */
+uint32_t hc_set_clock(uint32_t *table, size_t words, const struct hc_wall_time *now, uint32_t *fired,
+                      size_t fired_words, uint32_t *count);
+
+/* Answers the present date and the ticks into the second; all seven are 0 on a refusal.
+ * 100; 11 clock not set. */
+uint32_t hc_get_clock(const uint32_t *table, size_t words, struct hc_wall_time *now);
+
+#ifdef __cplusplus
+}
+#endif
+
+#endif

@@ -1,0 +1,157 @@
+/* Damaged tables: one or two words changed, or the slice cut short. A table that is no longer sound must be refused with
+ * 100 and stay; one that still is must be served as the oracle serves what it reads from it.
+ * Arguments: seed, number of calls. */
+#include "generate.h"
+
+#include <inttypes.h>
+#include <stdio.h>
+#include <stdlib.h>
+#include <string.h>
+
+static struct oracle oracle;
+static struct outcome expected;
+static uint64_t calls, refused, harmless, broken_alone[PARTS];
+
+/* The undamaged table, and its place in memory. */
+static uint32_t base[MAX_TABLE];
+static size_t base_words, slice;
+static uint32_t *table;
+
+static uint32_t some_value(uint32_t word)
+{
+    static const uint32_t limits[] = {0, 0, 1, 2, 3, 4, 5, 6, 255, 256, 999, 1000, 1001, LAST_SECOND, LAST_SECOND + 1,
+                                      0x80000000u, 0xffffffffu};
+    switch (below(7)) {
+    case 0:
+        return base[word] + 1;
+    case 1:
+        return base[word] - 1;
+    case 2:
+        return base[word] ^ 1u << below(32);
+    case 3:
+        return below(base[0] + 2);
+    case 4:
+        return base[below((uint32_t)base_words)];
+    case 5:
+        return one_in(2) ? base[below(7)] + below(2) : random_word();
+    default:
+        return limits[below(sizeof limits / sizeof *limits)];
+    }
+}
+
+static void change_words(void)
+{
+    if (one_in(40) && slice >= base_words) {
+        table[0]++;
+        return;
+    }
+    for (uint32_t changes = below(16) == 0 ? 0 : 1 + below(2); changes > 0; changes--) {
+        uint32_t word = below(one_in(3) ? 10 : (uint32_t)base_words);
+        if (word < slice)
+            table[word] = some_value(word);
+    }
+}
+
+/* Lays the table at the end of memory, whole or its first words, and damages it. Zeros past it make further free slots
+ * of a raised slot count. */
+static void damage(size_t tail)
+{
+    slice = base_words + tail;
+    if (one_in(12))
+        slice = one_in(2) ? below((uint32_t)base_words) : base_words - 1;
+    table = table_memory.end - slice;
+    memcpy(table, base, (slice < base_words ? slice : base_words) * sizeof(uint32_t));
+    for (size_t i = base_words; i < slice; i++)
+        table[i] = one_in(2) ? 0 : random_word();
+    if (one_in(2) && slice > base_words)
+        memset(table + base_words, 0, (slice - base_words) * sizeof(uint32_t));
+    change_words();
+    memcpy(table_memory.expected, table_memory.base, table_memory.total * sizeof(uint32_t));
+}
+
+static void choose_call(struct call *c)
+{
+    if (one_in(20))
+        random_lay_out(MAX_SLOTS, slice, c);
+    else
+        random_call(&oracle, c);
+    if (c->kind != LAY_OUT || c->words > slice)
+        c->words = slice;
+}
+
+static void expect(const struct call *c, uint32_t broken)
+{
+    if (broken && c->kind != LAY_OUT) {
+        memset(&expected, 0, sizeof expected);
+        expected.status = 100, expected.reason = TABLE_NOT_SOUND, expected.applying = 1u << TABLE_NOT_SOUND;
+        refused++;
+        for (int i = 0; i < PARTS; i++)
+            broken_alone[i] += broken == 1u << i;
+        return;
+    }
+    if (!broken)
+        oracle_decode(table, &oracle);
+    oracle_call(&oracle, c, &expected);
+    harmless += !broken;
+    if (expected.status != 0)
+        return;
+    oracle_encode(&oracle, table_memory.expected + table_memory.total - slice);
+    if (c->kind == TICK || c->kind == SET_CLOCK)
+        memcpy(list_memory.expected + list_memory.total - c->fired_words, expected.fired,
+               3 * (size_t)expected.answer * sizeof(uint32_t));
+}
+
+static void try_one(size_t tail)
+{
+    struct call c;
+    struct came came;
+    struct oracle kept = oracle;
+    damage(tail);
+    choose_call(&c);
+    place.call = &c, place.words = table, place.number++, calls++;
+    expect(&c, oracle_broken(table, slice));
+    perform(&c, table, list_memory.end - c.fired_words, &came);
+    compare(&came, &expected);
+    note(c.kind, &expected);
+    oracle = kept;
+}
+
+static unsigned parts_not_met(void)
+{
+    unsigned missing = 0;
+    for (int i = 0; i < PARTS; i++)
+        if (broken_alone[i] == 0) {
+            printf("  not met: a table not sound for this alone: %s\n", part_texts[i]);
+            missing++;
+        }
+    return missing;
+}
+
+int main(int count, char **arguments)
+{
+    uint64_t seed = count > 1 ? strtoull(arguments[1], NULL, 0) : 1;
+    uint64_t wanted = count > 2 ? strtoull(arguments[2], NULL, 0) : 1000000;
+    begin("damage", seed);
+    lend();
+    while (calls < wanted) {
+        random_span();
+        random_state_of(&oracle);
+        oracle_encode(&oracle, base);
+        base_words = 10 + 8 * (size_t)oracle.slots;
+        size_t tail = one_in(2) ? below(20) : 0;
+        if (oracle.slots == MAX_SLOTS && one_in(2))
+            tail = 8 + below(4);
+        place.table++, place.number = 0;
+        watch();
+        for (int i = 0; i < 40; i++)
+            try_one(tail);
+    }
+    printf("damage: seed %" PRIu64 ", %" PRIu64 " calls on %" PRIu64 " tables; %" PRIu64 " refused as not sound, %" PRIu64
+           " on tables still sound\n", seed, calls, place.table, refused, harmless);
+    report_met();
+    unsigned missing = report_not_met() + parts_not_met();
+    place.call = NULL, place.table = 0;
+    if (missing)
+        fail("%u cases were not met", missing);
+    return 0;
+}

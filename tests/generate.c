@@ -1,0 +1,279 @@
+/* Random states and calls; generate.h says it. */
+#include "generate.h"
+
+#include <string.h>
+
+uint32_t random_slots(void)
+{
+    switch (below(8)) {
+    case 0:
+        return 1;
+    case 1:
+        return 2;
+    case 2:
+    case 3:
+        return 3;
+    case 4:
+    case 5:
+        return 1 + below(12);
+    case 6:
+        return 1 + below(64);
+    default:
+        return one_in(2) ? 255 - below(2) : 1 + below(255);
+    }
+}
+
+uint32_t random_ticks_per_second(void)
+{
+    static const uint32_t usual[] = {1, 1, 2, 3, 10, 60, 100, 999, 1000};
+    return one_in(4) ? 1 + below(1000) : usual[below(sizeof usual / sizeof *usual)];
+}
+
+/* How far ahead most starts are due, in ticks or seconds: short spans give many equals, long ones many waiting. */
+static uint32_t span = 5;
+
+void random_span(void)
+{
+    static const uint32_t spans[] = {3, 5, 5, 40, 1000};
+    span = spans[below(sizeof spans / sizeof *spans)];
+}
+
+/* A number near another: the same, one more or less, or a few more. */
+static uint32_t near(uint32_t number)
+{
+    return number - 1 + below(one_in(4) ? 8 : 3);
+}
+
+static uint32_t random_number(void)
+{
+    static const uint32_t ends[] = {0, 1, 2, 255, 256, 1000, 0x7fffffffu, 0x80000000u, 0xfffffffeu, 0xffffffffu};
+    return one_in(3) ? random_word() : ends[below(sizeof ends / sizeof *ends)];
+}
+
+static uint32_t random_id(const struct oracle *o)
+{
+    uint32_t index = 1 + below(o->slots);
+    for (int tries = 0; tries < 3 && !o->timer[index].exists; tries++)
+        index = 1 + below(o->slots);
+    if (!one_in(6))
+        return ID_BASE + index;
+    switch (below(7)) {
+    case 0:
+        return ID_BASE;
+    case 1:
+        return ID_BASE + o->slots + below(2);
+    case 2:
+        return 1 + below(o->slots);
+    case 3:
+        return ID_BASE - 1 - below(3);
+    case 4:
+        return ID_BASE + 256 * (1 + below(300)) + below(3);
+    case 5:
+        return (ID_BASE ^ 1u << below(32)) + 1 + below(o->slots);
+    default:
+        return random_number();
+    }
+}
+
+static uint32_t random_name(void)
+{
+    if (one_in(10))
+        return 0;
+    return one_in(10) ? random_number() : 1 + below(one_in(2) ? 3 : 300);
+}
+
+/* The due of a timer that waits by this kind of start; 0 if none is found. */
+static uint64_t some_due(const struct oracle *o, int started)
+{
+    for (int tries = 0; tries < 8; tries++) {
+        const struct oracle_timer *t = &o->timer[1 + below(o->slots)];
+        if (t->exists && t->waiting && (int)t->started == started)
+            return t->due;
+    }
+    return 0;
+}
+
+static uint32_t random_ticks(const struct oracle *o)
+{
+    uint64_t due = some_due(o, BY_INTERVAL);
+    switch (below(10)) {
+    case 0:
+        return random_number();
+    case 1:
+        return 0xffffffffu - below(2);
+    case 2:
+    case 3:
+        return due > o->ticks ? near((uint32_t)(due - o->ticks)) : below(4);
+    case 4:
+        return below(3);
+    default:
+        return 1 + below(span);
+    }
+}
+
+static uint32_t random_second(const struct oracle *o)
+{
+    uint64_t due = some_due(o, BY_DATE);
+    uint32_t second = 0;
+    switch (below(12)) {
+    case 0:
+        second = LAST_SECOND - below(4);
+        break;
+    case 1:
+        second = below(4);
+        break;
+    case 2:
+        second = below(LAST_SECOND);
+        break;
+    case 3:
+    case 4:
+    case 5:
+        second = near(due ? (uint32_t)due : o->seconds);
+        break;
+    case 6:
+    case 7:
+    case 8:
+        second = o->seconds + 1 + below(span);
+        break;
+    default:
+        second = near(o->seconds);
+    }
+    return second > LAST_SECOND ? LAST_SECOND : second;
+}
+
+/* One field is put where no date has it, or where only other months or years have it. */
+static void spoil_date(struct hc_wall_time *t)
+{
+    static const uint32_t months[] = {2, 2, 2, 4, 6, 9, 11, 1, 12};
+    switch (below(10)) {
+    case 0:
+        t->year = one_in(2) ? 1987 - below(2) : 2100 + below(2);
+        break;
+    case 1:
+        t->year = random_number();
+        break;
+    case 2:
+        t->month = one_in(2) ? 0 : 13 + below(2);
+        break;
+    case 3:
+        t->month = random_number();
+        break;
+    case 4:
+        t->day = one_in(2) ? 0 : 32;
+        break;
+    case 5:
+        t->month = months[below(sizeof months / sizeof *months)];
+        t->day = 28 + below(5);
+        break;
+    case 6:
+        t->hour = one_in(3) ? random_number() : 24;
+        break;
+    case 7:
+        t->minute = one_in(3) ? random_number() : 60;
+        break;
+    case 8:
+        t->second = one_in(3) ? random_number() : 60;
+        break;
+    default:
+        t->day = random_number();
+    }
+}
+
+static void random_date(const struct oracle *o, struct hc_wall_time *t)
+{
+    oracle_date_of(random_second(o), t);
+    t->ticks = one_in(2) ? random_number() : 0;
+    if (one_in(4))
+        spoil_date(t);
+    if (one_in(40))
+        spoil_date(t);
+}
+
+static size_t random_list_length(uint32_t slots)
+{
+    if (!one_in(6))
+        return 3 * slots + (one_in(3) ? below(20) : 0);
+    return one_in(2) ? 3 * slots - 1 - below(3) : below(3 * slots + 20);
+}
+
+static enum call_kind random_kind(void)
+{
+    static const enum call_kind weights[] = {
+        CREATE, CREATE, CREATE, CREATE, CREATE, IDENT, IDENT, CANCEL, CANCEL, DELETE, DELETE,
+        FIRE_AFTER, FIRE_AFTER, FIRE_AFTER, FIRE_AFTER, FIRE_AFTER, FIRE_AFTER, FIRE_WHEN, FIRE_WHEN, FIRE_WHEN, FIRE_WHEN,
+        FIRE_WHEN, FIRE_WHEN, RESET, RESET, RESET, TICKS_LEFT, TICKS_LEFT, TICKS_LEFT, TICK, TICK, TICK, TICK, TICK, TICK,
+        TICK, TICK, TICK, TICK, SET_CLOCK, SET_CLOCK, SET_CLOCK, GET_CLOCK, GET_CLOCK};
+    return weights[below(sizeof weights / sizeof *weights)];
+}
+
+void random_call(const struct oracle *o, struct call *c)
+{
+    memset(c, 0, sizeof *c);
+    c->kind = random_kind();
+    c->fired_words = random_list_length(o->slots);
+    c->name = random_name();
+    c->id = random_id(o);
+    c->ticks = random_ticks(o);
+    c->routine = one_in(8) ? random_number() : 1 + below(9);
+    c->data = one_in(3) ? random_number() : below(100);
+    if (one_in(20))
+        c->routine = 0;
+    random_date(o, &c->time);
+}
+
+void random_lay_out(uint32_t most, size_t capacity, struct call *c)
+{
+    memset(c, 0, sizeof *c);
+    c->kind = LAY_OUT;
+    c->slots = 1 + below(most);
+    c->ticks_per_second = random_ticks_per_second();
+    c->words = capacity;
+    if (one_in(6))
+        c->slots = one_in(3) ? random_number() : one_in(2) ? 0 : 256 + below(2);
+    if (one_in(6))
+        c->ticks_per_second = one_in(3) ? random_number() : one_in(2) ? 0 : 1001 + below(2);
+    if (one_in(3) && c->slots <= most)
+        c->words = 10 + 8 * (size_t)c->slots - 1 + below(2);
+    else if (one_in(6))
+        c->words = below((uint32_t)capacity + 1);
+}
+
+/* ---- States ---- */
+
+static void random_timer(struct oracle *o, struct oracle_timer *t)
+{
+    uint32_t left = random_ticks(o), second = o->seconds + 1 + below(one_in(2) ? 3 : 1000);
+    *t = (struct oracle_timer){.exists = !one_in(5), .name = 1 + below(300)};
+    if (!t->exists)
+        t->name = 0;
+    if (!t->exists || one_in(6))
+        return;
+    t->routine = 1 + below(9), t->data = random_number(), t->start = ++o->starts;
+    t->waiting = !one_in(4);
+    t->started = one_in(2) ? BY_DATE : BY_INTERVAL;
+    if (t->started == BY_INTERVAL) {
+        t->interval = left == 0 ? 1 : left;
+        t->due = o->ticks + (one_in(2) ? t->interval : 1 + below(t->interval));
+    } else {
+        t->due = one_in(8) || second > LAST_SECOND ? LAST_SECOND : second;
+        t->waiting = t->waiting && o->clock_set && t->due > o->seconds;
+    }
+}
+
+void random_state_of(struct oracle *o)
+{
+    memset(o, 0, sizeof *o);
+    o->slots = random_slots();
+    o->ticks_per_second = random_ticks_per_second();
+    o->clock_set = !one_in(4);
+    if (o->clock_set) {
+        o->seconds = one_in(4) ? LAST_SECOND - below(3) : one_in(3) ? below(2) : below(LAST_SECOND);
+        o->clock_ticks = one_in(2) ? o->ticks_per_second - 1 : one_in(2) ? 0 : below(o->ticks_per_second);
+    }
+    for (uint32_t i = 1; i <= o->slots; i++)
+        random_timer(o, &o->timer[i]);
+    if (one_in(4))
+        for (uint32_t i = 1; i <= o->slots; i++)
+            if (!o->timer[i].exists)
+                o->timer[i] = (struct oracle_timer){.exists = true, .name = 1 + below(3)};
+}

@@ -1,0 +1,22 @@
+/* Random states and random calls with the numbers at which something changes. */
+#ifndef GENERATE_H
+#define GENERATE_H
+
+#include "harness.h"
+
+uint32_t random_slots(void);
+uint32_t random_ticks_per_second(void);
+
+/* Chooses how far ahead the starts of the calls that follow are due. */
+void random_span(void);
+
+/* A call other than lay out that suits the state, or just misses it. */
+void random_call(const struct oracle *state, struct call *call);
+
+/* A lay out of a table of at most so many slots, or one that is to be refused. */
+void random_lay_out(uint32_t most, size_t capacity, struct call *call);
+
+/* A state as some history could leave it: free, idle and waiting timers of all kinds. */
+void random_state_of(struct oracle *state);
+
+#endif

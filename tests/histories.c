@@ -1,0 +1,355 @@
+/* Histories: what must fire is kept from the calls and their statuses alone, as absolute ticks and dates, in the words of
+ * the specification's claim about whole lists of calls. No table is looked at, but for that claim's last sentence: the
+ * chains give the waiting timers in firing order by next, and in reverse by previous.
+ * Arguments: seed, number of calls. */
+#define _DEFAULT_SOURCE
+#include "harness.h"
+
+#include <inttypes.h>
+#include <stdio.h>
+#include <stdlib.h>
+#include <string.h>
+#include <time.h>
+
+/* A start that has not ended. The vector holds them in the order in which they were made. */
+struct start {
+    uint32_t id, ticks, routine, data;
+    bool by_date;
+    uint64_t due;       /* the accepted tick, or the date in seconds */
+};
+static struct start waiting[MAX_SLOTS + 1];
+static uint32_t waiting_count;
+
+/* The last start of each timer, for reset; ticks 0 where there is none by ticks. */
+static struct start last[MAX_SLOTS + 1];
+static bool lasts[MAX_SLOTS + 1];       /* from its create to its delete or a lay out */
+
+static uint64_t ticks, clock_ticks;     /* accepted ticks since lay out; the clock, counted in ticks */
+static bool clock_set;
+static uint32_t slots, ticks_per_second;
+static uint64_t calls, fired_in_all, accepted[CALLS];
+static uint32_t span;
+
+/* ---- The calendar is the C library's ---- */
+
+static time_t first_second(void)
+{
+    static time_t first;
+    if (first == 0) {
+        struct tm date = {.tm_year = 88, .tm_mday = 1};
+        first = timegm(&date);
+    }
+    return first;
+}
+
+static uint64_t seconds_of(const struct hc_wall_time *t)
+{
+    struct tm date = {.tm_year = (int)t->year - 1900, .tm_mon = (int)t->month - 1, .tm_mday = (int)t->day,
+                      .tm_hour = (int)t->hour, .tm_min = (int)t->minute, .tm_sec = (int)t->second};
+    return (uint64_t)(timegm(&date) - first_second());
+}
+
+static void date_of(uint64_t seconds, struct hc_wall_time *t)
+{
+    struct tm date;
+    time_t second = first_second() + (time_t)seconds;
+    gmtime_r(&second, &date);
+    *t = (struct hc_wall_time){(uint32_t)date.tm_year + 1900, (uint32_t)date.tm_mon + 1, (uint32_t)date.tm_mday,
+                               (uint32_t)date.tm_hour, (uint32_t)date.tm_min, (uint32_t)date.tm_sec, 0};
+}
+
+/* ---- Starts ---- */
+
+static void end_start(uint32_t place_in_list)
+{
+    memmove(&waiting[place_in_list], &waiting[place_in_list + 1], (waiting_count - place_in_list - 1) * sizeof *waiting);
+    waiting_count--;
+}
+
+static void end_starts_of(uint32_t id)
+{
+    for (uint32_t i = 0; i < waiting_count; i++)
+        if (waiting[i].id == id)
+            end_start(i--);
+}
+
+static void begin_start(struct start start)
+{
+    end_starts_of(start.id);
+    waiting[waiting_count++] = start;
+    last[start.id - ID_BASE] = start;
+}
+
+/* The first of the starts by tick or by date that is due by then: the least due, of equals the earlier start. */
+static int first_due(bool by_date, uint64_t limit)
+{
+    int first = -1;
+    for (uint32_t i = 0; i < waiting_count; i++)
+        if (waiting[i].by_date == by_date && waiting[i].due <= limit &&
+            (first < 0 || waiting[i].due < waiting[first].due))
+            first = (int)i;
+    return first;
+}
+
+static uint32_t fire(bool by_date, uint64_t limit, uint32_t *list)
+{
+    uint32_t count = 0;
+    for (int i = first_due(by_date, limit); i >= 0; i = first_due(by_date, limit)) {
+        list[3 * count] = waiting[i].id;
+        list[3 * count + 1] = waiting[i].routine;
+        list[3 * count + 2] = waiting[i].data;
+        count++;
+        end_start((uint32_t)i);
+    }
+    return count;
+}
+
+/* ---- What accepted calls mean ---- */
+
+static void forget_all(const struct call *c)
+{
+    waiting_count = 0, ticks = 0, clock_set = false;
+    memset(lasts, 0, sizeof lasts);
+    slots = c->slots, ticks_per_second = c->ticks_per_second;
+}
+
+static void expect_list(const struct came *came, const uint32_t *list, uint32_t count, const uint32_t *before,
+                        const uint32_t *after, size_t words)
+{
+    if (came->answer != count)
+        fail("expected %" PRIu32 " fired, came %" PRIu32, count, came->answer);
+    for (size_t i = 0; i < words; i++) {
+        uint32_t word = i < 3 * (size_t)count ? list[i] : before[i];
+        if (after[i] != word)
+            fail("list word %zu: expected %" PRIu32 ", came %" PRIu32, i, word, after[i]);
+    }
+    fired_in_all += count;
+}
+
+static uint32_t after_tick(uint32_t *list)
+{
+    ticks++;
+    uint32_t count = fire(false, ticks, list);
+    if (!clock_set)
+        return count;
+    if (clock_ticks < ((uint64_t)LAST_SECOND + 1) * ticks_per_second - 1)
+        clock_ticks++;
+    return count + fire(true, clock_ticks / ticks_per_second, list + 3 * count);
+}
+
+static uint32_t after_set_clock(const struct call *c, uint32_t *list)
+{
+    clock_set = true;
+    clock_ticks = seconds_of(&c->time) * ticks_per_second;
+    return fire(true, clock_ticks / ticks_per_second, list);
+}
+
+static void expect_ticks_left(const struct call *c, const struct came *came)
+{
+    uint64_t left = 0;
+    for (uint32_t i = 0; i < waiting_count; i++)
+        if (waiting[i].id == c->id && !waiting[i].by_date)
+            left = waiting[i].due - ticks;
+    if (came->answer != left)
+        fail("expected %" PRIu64 " ticks left, came %" PRIu32, left, came->answer);
+}
+
+static void expect_clock(const struct came *came)
+{
+    struct hc_wall_time now;
+    date_of(clock_ticks / ticks_per_second, &now);
+    now.ticks = (uint32_t)(clock_ticks % ticks_per_second);
+    if (!clock_set || memcmp(&now, &came->clock, sizeof now) != 0)
+        fail("expected the clock at tick %" PRIu64 " of 1988, came another date", clock_ticks);
+}
+
+static void expect_timer(uint32_t id)
+{
+    if (id <= ID_BASE || id - ID_BASE > slots || !lasts[id - ID_BASE])
+        fail("expected a refusal, since the id names no timer, came status 0");
+}
+
+static void after_create(uint32_t id)
+{
+    if (id <= ID_BASE || id - ID_BASE > slots || lasts[id - ID_BASE])
+        fail("expected the id of a free slot, came 0x%" PRIx32, id);
+    lasts[id - ID_BASE] = true;
+    last[id - ID_BASE] = (struct start){.id = id};
+}
+
+static void after_reset(const struct call *c)
+{
+    struct start again = last[c->id - ID_BASE];
+    if (again.ticks == 0)
+        fail("expected a refusal, since the last start was not by ticks, came status 0");
+    again.due = ticks + again.ticks;
+    begin_start(again);
+}
+
+/* Takes an accepted call into the history. */
+static void learn(const struct call *c, const struct came *came, const uint32_t *list_before, const uint32_t *list)
+{
+    uint32_t expected[MAX_LIST];
+    if (c->kind >= CANCEL && c->kind <= TICKS_LEFT)
+        expect_timer(c->id);
+    switch (c->kind) {
+    case LAY_OUT:
+        forget_all(c);
+        break;
+    case CREATE:
+        after_create(came->answer);
+        break;
+    case CANCEL:
+        end_starts_of(c->id);
+        break;
+    case DELETE:
+        end_starts_of(c->id);
+        lasts[c->id - ID_BASE] = false;
+        break;
+    case FIRE_AFTER:
+        begin_start((struct start){c->id, c->ticks, c->routine, c->data, false, ticks + c->ticks});
+        break;
+    case FIRE_WHEN:
+        begin_start((struct start){c->id, 0, c->routine, c->data, true, seconds_of(&c->time)});
+        break;
+    case RESET:
+        after_reset(c);
+        break;
+    case TICKS_LEFT:
+        expect_ticks_left(c, came);
+        break;
+    case TICK:
+        expect_list(came, expected, after_tick(expected), list_before, list, c->fired_words);
+        break;
+    case SET_CLOCK:
+        expect_list(came, expected, after_set_clock(c, expected), list_before, list, c->fired_words);
+        break;
+    case GET_CLOCK:
+        expect_clock(came);
+        break;
+    default:
+        break;
+    }
+}
+
+/* ---- The chains ---- */
+
+static void expect_chain(bool by_date, const uint32_t *table)
+{
+    static struct start kept[MAX_SLOTS + 1];
+    uint32_t list[MAX_LIST], kept_count = waiting_count, at = table[by_date ? 6 : 5], before = 0;
+    memcpy(kept, waiting, sizeof kept);
+    uint32_t count = fire(by_date, UINT64_MAX, list);
+    memcpy(waiting, kept, sizeof kept);
+    waiting_count = kept_count;
+    for (uint32_t i = 0; i < count; i++) {
+        if (at == 0 || at > slots || ID_BASE + at != list[3 * i])
+            fail("place %" PRIu32 " of chain %d: expected slot %" PRIu32 ", came %" PRIu32, i, by_date ? 6 : 5,
+                 list[3 * i] - ID_BASE, at);
+        if (table[2 + 8 * at + 7] != before)
+            fail("slot %" PRIu32 ": expected previous %" PRIu32 ", came %" PRIu32, at, before, table[2 + 8 * at + 7]);
+        before = at;
+        at = table[2 + 8 * at + 6];
+    }
+    if (at != 0)
+        fail("chain %d: expected its end after %" PRIu32 " slots, came slot %" PRIu32, by_date ? 6 : 5, count, at);
+}
+
+/* ---- Random calls ---- */
+
+static void random_time(struct hc_wall_time *t)
+{
+    uint64_t second = clock_set ? clock_ticks / ticks_per_second : 0;
+    switch (below(6)) {
+    case 0:
+        second = below(LAST_SECOND);
+        break;
+    case 1:
+        second = LAST_SECOND - below(span);
+        break;
+    case 2:
+        second = waiting_count ? waiting[below(waiting_count)].due + below(3) - 1 : 0;
+        break;
+    default:
+        second += below(span);
+    }
+    date_of(second > LAST_SECOND ? 0 : second, t);
+    t->ticks = random_word();
+    if (one_in(12))
+        t->day = 29 + below(4);
+    if (one_in(30))
+        t->year = 1986 + below(116);
+    if (one_in(30))
+        t->second = 59 + below(2);
+}
+
+static void random_history_call(struct call *c, size_t words)
+{
+    static const enum call_kind weights[] = {
+        CREATE, CREATE, CREATE, CANCEL, CANCEL, DELETE, FIRE_AFTER, FIRE_AFTER, FIRE_AFTER, FIRE_AFTER, FIRE_AFTER,
+        FIRE_WHEN, FIRE_WHEN, FIRE_WHEN, RESET, RESET, TICKS_LEFT, TICK, TICK, TICK, TICK, TICK, TICK, GET_CLOCK, IDENT};
+    memset(c, 0, sizeof *c);
+    c->kind = weights[below(sizeof weights / sizeof *weights)];
+    if (one_in(one_in(2) ? 20 : 60))
+        c->kind = SET_CLOCK;
+    if (one_in(1000))
+        c->kind = LAY_OUT;
+    c->words = words;
+    c->slots = one_in(4) ? 256 : slots, c->ticks_per_second = ticks_per_second;
+    c->name = below(5);
+    c->id = ID_BASE + below(slots + 2);
+    c->ticks = one_in(50) ? random_word() : below(span) + (one_in(20) ? 0 : 1);
+    c->routine = below(20), c->data = random_word();
+    c->fired_words = 3 * slots - (one_in(10) ? 1 : 0) + (one_in(3) ? 1 : 0);
+    random_time(&c->time);
+}
+
+static void make(struct call *c, uint32_t *table)
+{
+    uint32_t list[MAX_LIST + 1], list_before[MAX_LIST + 1];
+    struct came came;
+    for (size_t i = 0; i < c->fired_words; i++)
+        list[i] = list_before[i] = (uint32_t)(calls + i);
+    place.call = c, place.number++, calls++;
+    perform(c, table, list, &came);
+    if (came.status != 0) {
+        if (memcmp(list, list_before, c->fired_words * sizeof *list) != 0)
+            fail("status %" PRIu32 ": expected the list to stay, came a change", came.status);
+        return;
+    }
+    accepted[c->kind]++;
+    learn(c, &came, list_before, list);
+    expect_chain(false, table);
+    expect_chain(true, table);
+}
+
+int main(int count, char **arguments)
+{
+    uint64_t seed = count > 1 ? strtoull(arguments[1], NULL, 0) : 1;
+    uint64_t wanted = count > 2 ? strtoull(arguments[2], NULL, 0) : 1000000;
+    static uint32_t table[MAX_TABLE];
+    begin("histories", seed);
+    while (calls < wanted) {
+        static const uint32_t sizes[] = {1, 2, 3, 5, 12, 40, 255}, seconds[] = {1, 1, 2, 3, 10}, spans[] = {2, 4, 12, 60};
+        struct call c = {.kind = LAY_OUT, .slots = sizes[below(7)], .ticks_per_second = seconds[below(5)]};
+        c.words = 10 + 8 * c.slots;
+        span = spans[below(4)];
+        place.table++, place.number = 0;
+        watch();
+        make(&c, table);
+        for (uint32_t i = 0; i < 1000; i++) {
+            random_history_call(&c, 10 + 8 * slots);
+            make(&c, table);
+        }
+    }
+    printf("histories: seed %" PRIu64 ", %" PRIu64 " calls in %" PRIu64 " lists, %" PRIu64 " timers fired\n ", seed, calls,
+           place.table, fired_in_all);
+    for (int i = 0; i < CALLS; i++)
+        printf(" %s %" PRIu64, call_names[i], accepted[i]);
+    puts(" accepted");
+    place.call = NULL, place.table = 0;
+    for (int i = 0; i < CALLS; i++)
+        if (accepted[i] == 0)
+            fail("expected %s to be accepted at times, came only refusals", call_names[i]);
+    return 0;
+}

@@ -1,0 +1,146 @@
+/* libuv's timers on a clock of our own, one millisecond a tick, as a second timer list for interval timers: the same
+ * timers must fire, in the same order among equals, and as many ticks must be left.
+ * Arguments: seed, number of calls. */
+#define _DEFAULT_SOURCE
+#include "harness.h"
+
+#include <inttypes.h>
+#include <stdio.h>
+#include <stdlib.h>
+#include <time.h>
+#include <uv.h>
+
+/* The only clock that libuv sees in this program. */
+static uint64_t milliseconds = 1000;
+
+int clock_gettime(clockid_t clock, struct timespec *now)
+{
+    (void)clock;
+    now->tv_sec = (time_t)(milliseconds / 1000);
+    now->tv_nsec = (long)(milliseconds % 1000) * 1000000;
+    return 0;
+}
+
+int clock_getres(clockid_t clock, struct timespec *step)
+{
+    (void)clock;
+    step->tv_sec = 0, step->tv_nsec = 1;
+    return 0;
+}
+
+enum { SLOTS = 200 };
+static uv_timer_t timers[SLOTS + 1];
+static uint32_t interval[SLOTS + 1];    /* of the last start; 0 before the first */
+static uint32_t fired[SLOTS], fired_count;
+static uint64_t calls, fires;
+
+static void note_fired(uv_timer_t *timer)
+{
+    fired[fired_count++] = (uint32_t)(timer - timers);
+}
+
+static uint32_t table[10 + 8 * SLOTS], list[3 * SLOTS];
+
+static void make(struct call *c, uint32_t expected_status, struct came *came)
+{
+    c->words = 10 + 8 * SLOTS;
+    place.call = c, place.number++, calls++;
+    perform(c, table, list, came);
+    if (came->status != expected_status)
+        fail("expected status %" PRIu32 ", came %" PRIu32, expected_status, came->status);
+}
+
+static void start(struct call *c, uint32_t index, uint32_t ticks)
+{
+    struct came came;
+    make(c, 0, &came);
+    interval[index] = ticks;
+    uv_timer_stop(&timers[index]);
+    uv_timer_start(&timers[index], note_fired, ticks, 0);
+}
+
+static void expect_left(uint32_t index)
+{
+    struct came came;
+    struct call c = {.kind = TICKS_LEFT, .id = ID_BASE + index};
+    make(&c, 0, &came);
+    uint64_t left = uv_is_active((uv_handle_t *)&timers[index]) ? uv_timer_get_due_in(&timers[index]) : 0;
+    if (came.answer != left)
+        fail("expected %" PRIu64 " ticks left as libuv says, came %" PRIu32, left, came.answer);
+}
+
+static void tick(void)
+{
+    struct came came;
+    struct call c = {.kind = TICK, .fired_words = 3 * SLOTS};
+    milliseconds++;
+    fired_count = 0;
+    uv_update_time(uv_default_loop());
+    uv_run(uv_default_loop(), UV_RUN_NOWAIT);
+    make(&c, 0, &came);
+    if (came.answer != fired_count)
+        fail("expected %" PRIu32 " fired as by libuv, came %" PRIu32, fired_count, came.answer);
+    for (uint32_t i = 0; i < fired_count; i++)
+        if (list[3 * i] != ID_BASE + fired[i])
+            fail("place %" PRIu32 " of the fired: expected slot %" PRIu32 " as by libuv, came id 0x%" PRIx32, i, fired[i],
+                 list[3 * i]);
+    fires += fired_count;
+}
+
+static void one_call(void)
+{
+    uint32_t index = 1 + below(SLOTS), ticks = 1 + below(one_in(3) ? 40 : 6);
+    struct call c = {.id = ID_BASE + index, .ticks = one_in(100) ? 0xffffffffu : ticks, .routine = 7, .data = index};
+    struct came came;
+    switch (below(8)) {
+    case 0:
+    case 1:
+    case 2:
+        c.kind = FIRE_AFTER;
+        start(&c, index, c.ticks);
+        break;
+    case 3:
+        c.kind = RESET;
+        if (interval[index] == 0)
+            make(&c, 11, &came);
+        else
+            start(&c, index, interval[index]);
+        break;
+    case 4:
+        c.kind = CANCEL;
+        make(&c, 0, &came);
+        uv_timer_stop(&timers[index]);
+        break;
+    case 5:
+        expect_left(index);
+        break;
+    default:
+        tick();
+    }
+}
+
+int main(int count, char **arguments)
+{
+    uint64_t seed = count > 1 ? strtoull(arguments[1], NULL, 0) : 1;
+    uint64_t wanted = count > 2 ? strtoull(arguments[2], NULL, 0) : 1000000;
+    struct call lay_out = {.kind = LAY_OUT, .slots = SLOTS, .ticks_per_second = 1000};
+    struct came came;
+    begin("libuv", seed);
+    place.table = 1;
+    make(&lay_out, 0, &came);
+    for (uint32_t i = 1; i <= SLOTS; i++) {
+        struct call create = {.kind = CREATE, .name = i};
+        make(&create, 0, &came);
+        uv_timer_init(uv_default_loop(), &timers[i]);
+    }
+    while (calls < wanted) {
+        if (calls % 1000 == 0)
+            watch();
+        one_call();
+    }
+    printf("libuv %s: seed %" PRIu64 ", %" PRIu64 " calls, %" PRIu64 " timers fired\n", uv_version_string(), seed, calls,
+           fires);
+    if (fires == 0)
+        fail("expected timers to fire, came none");
+    return 0;
+}

@@ -1,0 +1,103 @@
+/* A second timer list, written from the text of the specification alone: a vector of timers, each with its absolute
+ * due tick or date and the number of its start. No chain and no difference is kept; both appear only when the state is
+ * written out as table words for comparison. */
+#ifndef ORACLE_H
+#define ORACLE_H
+
+#include "heathcinder.h"
+
+#include <stdbool.h>
+
+enum { MAX_SLOTS = 255, MAX_TABLE = 10 + 8 * MAX_SLOTS, MAX_LIST = 3 * MAX_SLOTS };
+#define ID_BASE 0x12010000u
+#define LAST_SECOND 3534451199u
+
+enum call_kind {
+    LAY_OUT, CREATE, IDENT, CANCEL, DELETE, FIRE_AFTER, FIRE_WHEN, RESET, TICKS_LEFT, TICK, SET_CLOCK, GET_CLOCK, CALLS
+};
+
+/* One call with its arguments; those that its kind does not take are not looked at. */
+struct call {
+    enum call_kind kind;
+    size_t words;                   /* length of the table's slice */
+    size_t fired_words;             /* length of the fired list */
+    uint32_t slots, ticks_per_second;
+    uint32_t name, id, ticks, routine, data;
+    struct hc_wall_time time;
+};
+
+/* Why a call is refused: finer than the statuses, so that a test can tell which of them it has met. */
+enum reason {
+    ACCEPTED,
+    TABLE_NOT_SOUND, LIST_SHORT,
+    SLOTS_BELOW, SLOTS_ABOVE, TPS_BELOW, TPS_ABOVE, WORDS_SHORT,
+    NAME_ZERO, NAME_UNKNOWN, NONE_FREE,
+    ID_BELOW, ID_ABOVE, ID_FREE,
+    TICKS_ZERO, ROUTINE_ZERO, CLOCK_UNSET,
+    BAD_YEAR, BAD_MONTH, BAD_DAY, BAD_HOUR, BAD_MINUTE, BAD_SECOND, DATE_NOT_AFTER,
+    NEVER_STARTED_YET, IDLE_BY_DATE, WAITS_FOR_DATE,
+    REASONS
+};
+
+struct outcome {
+    uint32_t status;
+    enum reason reason;             /* one that gives the status */
+    uint32_t applying;              /* all reasons that apply, a bit each */
+    uint32_t answer;
+    struct hc_wall_time clock;      /* get clock's answer */
+    uint32_t fired[MAX_LIST];       /* answer times three words, for tick and set clock */
+};
+
+struct oracle_timer {
+    bool exists, waiting;
+    enum { NEVER, BY_INTERVAL, BY_DATE } started;
+    uint32_t name, interval, routine, data;
+    uint64_t due;                   /* the tick since lay out, or the second */
+    uint64_t start;                 /* the how-manieth start this was */
+};
+
+struct oracle {
+    uint32_t slots, ticks_per_second;
+    bool clock_set;
+    uint32_t seconds, clock_ticks;
+    uint64_t ticks, starts;         /* so far */
+    struct oracle_timer timer[MAX_SLOTS + 1];
+};
+
+/* The parts of soundness, a bit each in what oracle_broken gives. */
+enum part {
+    PART_HEADER_SHORT, PART_SLOTS_BELOW, PART_SLOTS_ABOVE, PART_WORDS, PART_TPS, PART_CLOCK_SET, PART_SECONDS,
+    PART_CLOCK_TICKS, PART_ZEROS, PART_UNSET_CLOCK, PART_UNSET_DATED,
+    PART_KIND, PART_FREE, PART_NEVER_NAME, PART_NEVER_REST, PART_NAME, PART_ROUTINE, PART_INTERVAL,
+    PART_NO_INTERVAL, PART_IDLE_WAIT, PART_IDLE_LINKS,
+    PART_TICKING_CHAIN, PART_TICKING_PREVIOUS, PART_FIRST_WAIT, PART_LEFT,
+    PART_DATED_CHAIN, PART_DATED_PREVIOUS, PART_DATE_ABOVE, PART_DATE_LAST, PART_DATES_RISE,
+    PARTS
+};
+
+extern const char *const call_names[CALLS];
+extern const char *const reason_texts[REASONS];
+extern const uint32_t reason_statuses[REASONS];
+extern const char *const part_texts[PARTS];
+
+/* What the call gives on this state, and the state after it. */
+void oracle_call(struct oracle *state, const struct call *call, struct outcome *outcome);
+
+/* The state's 10 + 8N words. */
+void oracle_encode(const struct oracle *state, uint32_t *table);
+
+/* The parts of soundness that the slice breaks; 0 if it is sound. */
+uint32_t oracle_broken(const uint32_t *table, size_t words);
+
+/* The state that a sound table holds. */
+void oracle_decode(const uint32_t *table, struct oracle *state);
+
+/* The calendar as a list of days. */
+bool oracle_seconds_of(const struct hc_wall_time *time, uint32_t *seconds);
+void oracle_date_of(uint32_t seconds, struct hc_wall_time *time);
+
+/* May this call be refused for this reason; may it be refused with the first status while the second applies too. */
+bool oracle_possible(enum call_kind kind, enum reason reason);
+bool oracle_pair_possible(enum call_kind kind, uint32_t first, uint32_t second);
+
+#endif
