@@ -15,6 +15,7 @@ ghost use Rattle.firing.specs.Lists.{Room, Fires};
 use links::follower;
 use links::stop;
 use model::Chain;
+use slots::ID_BASE;
 use table::CLOCK_SET;
 use table::DATA;
 use table::FIRST_TICKING;
@@ -25,9 +26,6 @@ use table::TICKS_PER_SECOND;
 use table::WAIT;
 use table::get;
 use table::put;
-
-// An id is this plus the slot's index.
-pub const ID_BASE: u32 = 0x12010000;
 
 // Entry n of the fired list.
 fn put_entry(list: &mut [u32], n: u32, id: u32, routine: u32, user_data: u32)

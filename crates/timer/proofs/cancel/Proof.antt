@@ -60,13 +60,14 @@ same-length-3 c = search needs
 
 returns-3 : tie.Need-returns-3
 returns-3 c =
-    let b = c .before .before .before .before .before .before .before in
+    let d = c .before .before .before .before in
+    let b = d .before .before .before in
     let a = b .before .before .before .before .args in
     let t = a .table .now in
     let rule = sound-rule t _ (b .before .is-sound .ensures) (b .if1 .left) in
     let ok = sound-now t _ (b .before .is-sound .ensures) (b .if1 .left) in
-    let some = c .before .before .before .before .if2 .left in
-    let at = c .before .before .before .before .before .named .ensures in
+    let some = d .if2 .left in
+    let at = d .before .named .ensures in
     let i = c .before .before .before .before .before .named .result in
     let is = index-is t ok (a .id) i at some in
     done t (cancel (a .id)) (0 ∷ []) _ [] (rule, (known t ok (a .id) i at some, tt)) refl

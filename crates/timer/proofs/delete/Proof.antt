@@ -58,12 +58,13 @@ stop-requires c κs =
 
 store-requires : tie.Need-store-requires
 store-requires c κs =
-    let b = c .before .before .before .before .before .before .before .before in
+    let d = c .before .before .before .before .before in
+    let b = d .before .before .before in
     let a = b .before .before .before .before .args in
     let t = a .table .now in
     let ok = sound-now t _ (b .before .is-sound .ensures) (b .if1 .left) in
-    let some = c .before .before .before .before .before .if2 .left in
-    let at = c .before .before .before .before .before .before .named .ensures in
+    let some = d .if2 .left in
+    let at = d .before .named .ensures in
     still-in-table t ok _ (in-table t ok (a .id) _ at some) _ (c .before .before .before .stop .ensures)
 
 same-length-3 : tie.Need-same-length-3
@@ -71,13 +72,14 @@ same-length-3 c = search needs
 
 returns-3 : tie.Need-returns-3
 returns-3 c =
-    let b = c .before .before .before .before .before .before .before .before .before .before .before in
+    let d = c .before .before .before .before .before .before .before .before in
+    let b = d .before .before .before in
     let a = b .before .before .before .before .args in
     let t = a .table .now in
     let rule = sound-rule t _ (b .before .is-sound .ensures) (b .if1 .left) in
     let ok = sound-now t _ (b .before .is-sound .ensures) (b .if1 .left) in
-    let some = c .before .before .before .before .before .before .before .before .if2 .left in
-    let at = c .before .before .before .before .before .before .before .before .before .named .ensures in
+    let some = d .if2 .left in
+    let at = d .before .named .ensures in
     let i = c .before .before .before .before .before .before .before .before .before .named .result in
     let in-it = in-table t ok (a .id) i at some in
     let is = index-is t ok (a .id) i at some in

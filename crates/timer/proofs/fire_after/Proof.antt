@@ -90,13 +90,14 @@ same-length-5 c = search needs
 
 returns-5 : tie.Need-returns-5
 returns-5 c =
-    let b = c .before .before .before .before .before .before .before .before .before in
+    let d = c .before .before .before .before in
+    let b = d .before .before .before .before .before in
     let a = b .before .before .before .before .args in
     let t = a .table .now in
     let rule = sound-rule t _ (b .before .is-sound .ensures) (b .if1 .left) in
     let ok = sound-now t _ (b .before .is-sound .ensures) (b .if1 .left) in
-    let some = c .before .before .before .before .if4 .left in
-    let at = c .before .before .before .before .before .named .ensures in
+    let some = d .if4 .left in
+    let at = d .before .named .ensures in
     let some-ticks = c .before .before .before .before .before .before .before .before .if2 .left in
     let used = c .before .before .before .before .before .before .before .if3 .left in
     let i = c .before .before .before .before .before .named .result in

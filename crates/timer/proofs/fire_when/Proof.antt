@@ -149,7 +149,8 @@ same-length-7 c = search needs
 
 returns-7 : tie.Need-returns-7
 returns-7 c =
-    let b = c .before .before .before .before .before .before .before .before .before .before .before .before .before .before .before .before in
+    let d = c .before .before .before .before in
+    let b = d .before .before .before .before .before .before .before .before .before .before .before .before in
     let a = b .before .before .before .before .args in
     let t = a .table .now in
     let rule = sound-rule t _ (b .before .is-sound .ensures) (b .if1 .left) in
@@ -159,8 +160,8 @@ returns-7 c =
     let to = c .before .before .before .before .before .before .before .before .before .before .before .before .to-seconds .ensures in
     let got = c .before .before .before .before .before .before .before .before .before .before .date .given .1 in
     let later = later-date t (a .when) _ to got (c .before .before .before .before .before .before .before .if4 .left) in
-    let some = c .before .before .before .before .if5 .left in
-    let at = c .before .before .before .before .before .named .ensures in
+    let some = d .if5 .left in
+    let at = d .before .named .ensures in
     let i = c .before .before .before .before .before .named .result in
     let is = index-is t ok (a .id) i at some in
     done t (fireWhen (a .id) (a .when) (a .routine) (a .user-data)) (0 ∷ []) _ []

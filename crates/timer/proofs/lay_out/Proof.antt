@@ -56,10 +56,13 @@ same-length c = search needs
 
 returns-3 : tie.Need-returns-3
 returns-3 c =
-    let a = c .before .before .before .before .before .before .before .before .args in
+    let room = c .before .before .before .before in
+    let limits = room .before in
+    let a = limits .before .before .before .args in
     let t = a .table .now in
+    let inside = inside-limits (limits .before .within-limits .ensures) (limits .if1 .left) in
     done t (layOut (a .slots) (a .rate)) (0 ∷ []) _ []
-    (inside-limits (c .before .before .before .before .before .before .within-limits .ensures) (c .before .before .before .before .before .if1 .left), (le-ltb (length t) (10 + 8 * a .slots) (c .before .before .before .before .if2 .left), tt)) refl
+    (inside, (le-ltb (length t) (10 + 8 * a .slots) (room .if2 .left), tt)) refl
     (laid-is t _ (a .slots) (a .rate) (c .before .before .clear .ensures)) refl
 
 pub lay-out-spec : {M : Type 1} → statement M

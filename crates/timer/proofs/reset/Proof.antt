@@ -62,54 +62,59 @@ same-length-3 c = search needs
 
 returns-3 : tie.Need-returns-3
 returns-3 c =
-    let b = c .before .before .before .before .before .before .before in
+    let d = c .before .before .before .before in
+    let b = d .before .before .before in
     let a = b .before .before .before .before .args in
     let t = a .table .now in
     let rule = sound-rule t _ (b .before .is-sound .ensures) (b .if1 .left) in
     let ok = sound-now t _ (b .before .is-sound .ensures) (b .if1 .left) in
-    let some = c .before .before .before .before .if2 .left in
-    let at = c .before .before .before .before .before .named .ensures in
+    let some = d .if2 .left in
+    let at = d .before .named .ensures in
     refuses t (reset (a .id)) NotDefined 2 (rule, (known t ok (a .id) _ at some, tt))
     (not-by-ticks t ok (a .id) _ at some (c .before .before .get .ensures) (c .before .was-by-ticks .ensures) (c .if3 .taken)) refl
 
 get-requires-2 : tie.Need-get-requires-2
 get-requires-2 c κs =
-    let b = c .before .before .before .before .before .before .before .before in
+    let d = c .before .before .before .before .before in
+    let b = d .before .before .before in
     let a = b .before .before .before .before .args in
     let t = a .table .now in
     let ok = sound-now t _ (b .before .is-sound .ensures) (b .if1 .left) in
-    let some = c .before .before .before .before .before .if2 .left in
-    let at = c .before .before .before .before .before .before .named .ensures in
+    let some = d .if2 .left in
+    let at = d .before .named .ensures in
     (omega arith, named-inside t ok (a .id) _ at some)
 
 get-requires-3 : tie.Need-get-requires-3
 get-requires-3 c κs =
-    let b = c .before .before .before .before .before .before .before .before .before .before in
+    let d = c .before .before .before .before .before .before .before in
+    let b = d .before .before .before in
     let a = b .before .before .before .before .args in
     let t = a .table .now in
     let ok = sound-now t _ (b .before .is-sound .ensures) (b .if1 .left) in
-    let some = c .before .before .before .before .before .before .before .if2 .left in
-    let at = c .before .before .before .before .before .before .before .before .named .ensures in
+    let some = d .if2 .left in
+    let at = d .before .named .ensures in
     (omega arith, named-inside t ok (a .id) _ at some)
 
 get-requires-4 : tie.Need-get-requires-4
 get-requires-4 c κs =
-    let b = c .before .before .before .before .before .before .before .before .before .before .before .before in
+    let d = c .before .before .before .before .before .before .before .before .before in
+    let b = d .before .before .before in
     let a = b .before .before .before .before .args in
     let t = a .table .now in
     let ok = sound-now t _ (b .before .is-sound .ensures) (b .if1 .left) in
-    let some = c .before .before .before .before .before .before .before .before .before .if2 .left in
-    let at = c .before .before .before .before .before .before .before .before .before .before .named .ensures in
+    let some = d .if2 .left in
+    let at = d .before .named .ensures in
     (omega arith, named-inside t ok (a .id) _ at some)
 
 start-requires : tie.Need-start-requires
 start-requires c κs =
-    let b = c .before .before .before .before .before .before .before .before .before .before .before .before .before .before in
+    let d = c .before .before .before .before .before .before .before .before .before .before .before in
+    let b = d .before .before .before in
     let a = b .before .before .before .before .args in
     let t = a .table .now in
     let ok = sound-now t _ (b .before .is-sound .ensures) (b .if1 .left) in
-    let some = c .before .before .before .before .before .before .before .before .before .before .before .if2 .left in
-    let at = c .before .before .before .before .before .before .before .before .before .before .before .before .named .ensures in
+    let some = d .if2 .left in
+    let at = d .before .named .ensures in
     (in-table t ok (a .id) _ at some, omega arith)
 
 same-length-4 : tie.Need-same-length-4
@@ -117,17 +122,19 @@ same-length-4 c = search needs
 
 returns-4 : tie.Need-returns-4
 returns-4 c =
-    let b = c .before .before .before .before .before .before .before .before .before .before .before .before .before .before .before .before .before in
+    let d = c .before .before .before .before .before .before .before .before .before .before .before .before .before .before in
+    let b = d .before .before .before in
     let a = b .before .before .before .before .args in
     let t = a .table .now in
     let rule = sound-rule t _ (b .before .is-sound .ensures) (b .if1 .left) in
     let ok = sound-now t _ (b .before .is-sound .ensures) (b .if1 .left) in
-    let some = c .before .before .before .before .before .before .before .before .before .before .before .before .before .before .if2 .left in
-    let at = c .before .before .before .before .before .before .before .before .before .before .before .before .before .before .before .named .ensures in
+    let some = d .if2 .left in
+    let at = d .before .named .ensures in
     let ticks = c .before .before .before .before .before .before .before .before .get2 .ensures in
     let routine = c .before .before .before .before .before .before .get3 .ensures in
     let user-data = c .before .before .before .before .get4 .ensures in
-    let timed = by-ticks t ok (a .id) _ at some (c .before .before .before .before .before .before .before .before .before .before .before .before .get .ensures) (c .before .before .before .before .before .before .before .before .before .before .before .was-by-ticks .ensures) (c .before .before .before .before .before .before .before .before .before .before .if3 .left) in
+    let e = c .before .before .before .before .before .before .before .before .before .before in
+    let timed = by-ticks t ok (a .id) _ at some (e .before .before .get .ensures) (e .before .was-by-ticks .ensures) (e .if3 .left) in
     done t (reset (a .id)) (0 ∷ []) _ [] (rule, (known t ok (a .id) _ at some, (timed, tt))) refl
     (c .before .before .start .ensures ∙ reset-is t ok (a .id) _ at some ticks routine user-data) refl
 

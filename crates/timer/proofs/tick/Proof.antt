@@ -63,54 +63,63 @@ come-nearer-requires c κs =
 
 fire-requires : tie.Need-fire-requires
 fire-requires c κs =
-    let b = c .before .before .before .before .before .before .before .before .before in
+    let near = c .before .before .before .before in
+    let room = near .before .before in
+    let b = room .before .before .before in
     let a = b .before .before .before .before .before .args in
     let t = a .table .now in
     let list = a .fired .now in
     let ok = sound-now t _ (b .before .is-sound .ensures) (b .if1 .left) in
-    let room = c .before .before .before .before .before .before .if2 .left in
-    let long = long-enough t list _ (c .before .before .before .before .before .before .before .list-words .ensures) room in
-    nearer-room t list ok long (c .before .before .before .before .come-nearer .ensures)
+    let long = long-enough t list _ (room .before .list-words .ensures) (room .if2 .left) in
+    nearer-room t list ok long (near .come-nearer .ensures)
 
 step-clock-requires : tie.Need-step-clock-requires
 step-clock-requires c κs =
-    let b = c .before .before .before .before .before .before .before .before .before .before .before .before .before .before .before in
+    let fired = c .before .before .before .before .before in
+    let near = fired .before .before .before .before .before in
+    let room = near .before .before in
+    let b = room .before .before .before in
     let a = b .before .before .before .before .before .args in
     let t = a .table .now in
     let list = a .fired .now in
     let ok = sound-now t _ (b .before .is-sound .ensures) (b .if1 .left) in
-    let room = c .before .before .before .before .before .before .before .before .before .before .before .before .if2 .left in
-    let long = long-enough t list _ (c .before .before .before .before .before .before .before .before .before .before .before .before .before .list-words .ensures) room in
-    let e₁ = c .before .before .before .before .before .before .before .before .before .before .come-nearer .ensures in
-    let f₁ = c .before .before .before .before .before .fire .ensures in
+    let long = long-enough t list _ (room .before .list-words .ensures) (room .if2 .left) in
+    let e₁ = near .come-nearer .ensures in
+    let f₁ = fired .fire .ensures in
     (first-holds t list ok long e₁ f₁, first-into t list ok long e₁ f₁)
 
 slice-read-second : tie.Need-slice-read-second
 slice-read-second c =
-    let b = c .before .before .before .before .before .before .before .before .before .before .before .before .before .before .before .before .before .before .before in
+    let clock = c .before .before .before in
+    let fired = clock .before .before .before .before .before .before in
+    let near = fired .before .before .before .before .before in
+    let room = near .before .before in
+    let b = room .before .before .before in
     let a = b .before .before .before .before .before .args in
     let t = a .table .now in
     let list = a .fired .now in
     let ok = sound-now t _ (b .before .is-sound .ensures) (b .if1 .left) in
-    let room = c .before .before .before .before .before .before .before .before .before .before .before .before .before .before .before .before .if2 .left in
-    let long = long-enough t list _ (c .before .before .before .before .before .before .before .before .before .before .before .before .before .before .before .before .before .list-words .ensures) room in
-    let e₁ = c .before .before .before .before .before .before .before .before .before .before .before .before .before .before .come-nearer .ensures in
-    let f₁ = c .before .before .before .before .before .before .before .before .before .fire .ensures in
-    let e₃ = c .before .before .before .step-clock .ensures in
+    let long = long-enough t list _ (room .before .list-words .ensures) (room .if2 .left) in
+    let e₁ = near .come-nearer .ensures in
+    let f₁ = fired .fire .ensures in
+    let e₃ = clock .step-clock .ensures in
     omega (arith, clock-room t list ok long e₁ f₁ e₃ .holds .long)
 
 fire-requires-2 : tie.Need-fire-requires-2
 fire-requires-2 c κs =
-    let b = c .before .before .before .before .before .before .before .before .before .before .before .before .before .before .before .before .before .before .before .before .before in
+    let clock = c .before .before .before .before .before in
+    let fired = clock .before .before .before .before .before .before in
+    let near = fired .before .before .before .before .before in
+    let room = near .before .before in
+    let b = room .before .before .before in
     let a = b .before .before .before .before .before .args in
     let t = a .table .now in
     let list = a .fired .now in
     let ok = sound-now t _ (b .before .is-sound .ensures) (b .if1 .left) in
-    let room = c .before .before .before .before .before .before .before .before .before .before .before .before .before .before .before .before .before .before .if2 .left in
-    let long = long-enough t list _ (c .before .before .before .before .before .before .before .before .before .before .before .before .before .before .before .before .before .before .before .list-words .ensures) room in
-    let e₁ = c .before .before .before .before .before .before .before .before .before .before .before .before .before .before .before .before .come-nearer .ensures in
-    let f₁ = c .before .before .before .before .before .before .before .before .before .before .before .fire .ensures in
-    let e₃ = c .before .before .before .before .before .step-clock .ensures in
+    let long = long-enough t list _ (room .before .list-words .ensures) (room .if2 .left) in
+    let e₁ = near .come-nearer .ensures in
+    let f₁ = fired .fire .ensures in
+    let e₃ = clock .step-clock .ensures in
     clock-room t list ok long e₁ f₁ e₃
 
 same-length-3 : tie.Need-same-length-3
@@ -121,16 +130,19 @@ same-length-4 c = search needs
 
 returns-3 : tie.Need-returns-3
 returns-3 c =
-    let b = c .before .before .before .before .before .before .before .before .before .before .before .before .before .before .before .before .before .before .before .before .before .before .before .before .before .before in
+    let clock = c .before .before .before .before .before .before .before .before .before .before in
+    let fired = clock .before .before .before .before .before .before in
+    let near = fired .before .before .before .before .before in
+    let room = near .before .before in
+    let b = room .before .before .before in
     let a = b .before .before .before .before .before .args in
     let t = a .table .now in
     let list = a .fired .now in
     let ok = sound-now t _ (b .before .is-sound .ensures) (b .if1 .left) in
-    let room = c .before .before .before .before .before .before .before .before .before .before .before .before .before .before .before .before .before .before .before .before .before .before .before .if2 .left in
-    let long = long-enough t list _ (c .before .before .before .before .before .before .before .before .before .before .before .before .before .before .before .before .before .before .before .before .before .before .before .before .list-words .ensures) room in
-    let e₁ = c .before .before .before .before .before .before .before .before .before .before .before .before .before .before .before .before .before .before .before .before .before .come-nearer .ensures in
-    let f₁ = c .before .before .before .before .before .before .before .before .before .before .before .before .before .before .before .before .fire .ensures in
-    let e₃ = c .before .before .before .before .before .before .before .before .before .before .step-clock .ensures in
+    let long = long-enough t list _ (room .before .list-words .ensures) (room .if2 .left) in
+    let e₁ = near .come-nearer .ensures in
+    let f₁ = fired .fire .ensures in
+    let e₃ = clock .step-clock .ensures in
     let rule = sound-rule t _ (b .before .is-sound .ensures) (b .if1 .left) in
     let l = ticked-is t list ok long e₁ f₁ e₃ (c .before .before .before .before .fire2 .ensures) in
     done t (tick list) _ _ _ (rule, (not-short t list long, tt)) (l .answer) (l .table) (l .entries)

@@ -51,35 +51,38 @@ get-requires c κs =
 
 returns-3 : tie.Need-returns-3
 returns-3 c =
-    let b = c .before .before .before .before in
+    let d = c .before .before in
+    let b = d .before .before in
     let a = b .before .before .before .args in
     let t = a .table .now in
     let rule = sound-rule t _ (b .before .is-sound .ensures) (b .if1 .left) in
     let ok = sound-now t _ (b .before .is-sound .ensures) (b .if1 .left) in
-    let some = c .before .before .if2 .left in
-    let at = c .before .before .before .named .ensures in
+    let some = d .if2 .left in
+    let at = d .before .named .ensures in
     done t (ticksLeft (a .id)) (0 ∷ []) t [] (rule, (known t ok (a .id) _ at some, tt))
     (no-ticks t ok (a .id) _ at some (λ z. c .if3 .taken (c .before .get .ensures ∙ z))) (same-table t ok) refl
 
 ticks-to-requires : tie.Need-ticks-to-requires
 ticks-to-requires c κs =
-    let b = c .before .before .before .before in
+    let d = c .before .before in
+    let b = d .before .before in
     let a = b .before .before .before .args in
     let t = a .table .now in
     let ok = sound-now t _ (b .before .is-sound .ensures) (b .if1 .left) in
-    let some = c .before .before .if2 .left in
-    let at = c .before .before .before .named .ensures in
+    let some = d .if2 .left in
+    let at = d .before .named .ensures in
     (sound-holds t ok, λ p. ticks-met t ok (a .id) _ at some (sym (c .before .get .ensures) ∙ c .if3 .left))
 
 returns-4 : tie.Need-returns-4
 returns-4 c =
-    let b = c .before .before .before .before .before in
+    let d = c .before .before .before in
+    let b = d .before .before in
     let a = b .before .before .before .args in
     let t = a .table .now in
     let rule = sound-rule t _ (b .before .is-sound .ensures) (b .if1 .left) in
     let ok = sound-now t _ (b .before .is-sound .ensures) (b .if1 .left) in
-    let some = c .before .before .before .if2 .left in
-    let at = c .before .before .before .before .named .ensures in
+    let some = d .if2 .left in
+    let at = d .before .named .ensures in
     done t (ticksLeft (a .id)) (_ ∷ []) t [] (rule, (known t ok (a .id) _ at some, tt))
     (some-ticks t ok (a .id) _ at some _ (c .ticks-to .ensures)) (same-table t ok) refl
 
