@@ -87,14 +87,15 @@ set-clock-requires c κs =
 
 fire-requires : tie.Need-fire-requires
 fire-requires c κs =
-    let b = c .before .before .before .before .before .before .before .before .before .before .before .before .before in
+    let moved = c .before .before .before .before in
+    let room = moved .before .before .before .before .before .before in
+    let b = room .before .before .before in
     let a = b .before .before .before .before .before .args in
     let t = a .table .now in
     let list = a .fired .now in
     let ok = sound-now t _ (b .before .is-sound .ensures) (b .if1 .left) in
-    let room = c .before .before .before .before .before .before .before .before .before .before .if2 .left in
-    let long = long-enough t list _ (c .before .before .before .before .before .before .before .before .before .before .before .list-words .ensures) room in
-    moved-room t list ok long _ (c .before .before .before .before .set-clock .ensures)
+    let long = long-enough t list _ (room .before .list-words .ensures) (room .if2 .left) in
+    moved-room t list ok long _ (moved .set-clock .ensures)
 
 same-length-4 : tie.Need-same-length-4
 same-length-4 c = search needs
@@ -104,17 +105,20 @@ same-length-5 c = search needs
 
 returns-4 : tie.Need-returns-4
 returns-4 c =
-    let b = c .before .before .before .before .before .before .before .before .before .before .before .before .before .before .before .before .before .before in
+    let fired = c .before .before .before .before in
+    let moved = fired .before .before .before .before .before in
+    let told = moved .before .before .before in
+    let room = told .before .before .before in
+    let b = room .before .before .before in
     let a = b .before .before .before .before .before .args in
     let t = a .table .now in
     let list = a .fired .now in
     let ok = sound-now t _ (b .before .is-sound .ensures) (b .if1 .left) in
-    let room = c .before .before .before .before .before .before .before .before .before .before .before .before .before .before .before .if2 .left in
-    let long = long-enough t list _ (c .before .before .before .before .before .before .before .before .before .before .before .before .before .before .before .before .list-words .ensures) room in
-    let to = c .before .before .before .before .before .before .before .before .before .before .before .before .before .before .to-seconds .ensures in
-    let got = c .before .before .before .before .before .before .before .before .before .before .before .before .second .given .1 in
+    let long = long-enough t list _ (room .before .list-words .ensures) (room .if2 .left) in
+    let to = told .before .before .to-seconds .ensures in
+    let got = told .second .given .1 in
     let rule = sound-rule t _ (b .before .is-sound .ensures) (b .if1 .left) in
-    let l = moved-is t list ok long _ (c .before .before .before .before .before .before .before .before .before .set-clock .ensures) (c .before .before .before .before .fire .ensures) in
+    let l = moved-is t list ok long _ (moved .set-clock .ensures) (fired .fire .ensures) in
     set-clock-done t (a .time) list _ _ _ _
     (rule, (not-short t list long, (is-valid (a .time) _ to got, tt))) (second-is (a .time) _ to got) l
 
