@@ -1,7 +1,7 @@
 -- What C gets and gives, in the model's terms: the status and the answer that come back as numbers, beside the words that the call left; and
 -- the seven numbers of a wall time. Assumes nothing: these are definitions.
 use Prim.Native.Nat.{ℕ}
-use mathlib.Core.List.{List, [], _∷_}
+use mathlib.Core.List.{List}
 use lib.ListN.{getD, replicate}
 use Rattle.calendar.specs.declared.WallTime.{WallTime}
 use Rattle.model.specs.Status.{numberOf}

@@ -80,6 +80,7 @@ fn wall_time(numbers: &[u32; 7]) -> WallTime
     }
 }
 
+// The twelve calls. Each is the timer's call of that name, with the same arguments.
 #[no_mangle]
 pub extern "C" fn hc_lay_out(table: &mut [u32], slots: u32, rate: u32) -> u32
     ensures { λ r. ⌜ exported r (0 ∷ []) (now (table .exit)) [] ≡ outcome (now (table .entry)) (call.layOut slots rate) ⌝ }

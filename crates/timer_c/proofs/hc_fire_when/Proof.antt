@@ -1,3 +1,5 @@
+-- `timer_c::hc_fire_when` meets its contract: the wall time is that of the seven numbers, the status that of `fire_when`'s answer, and the
+-- number of that answer is 0, done or refused. Assumes nothing.
 use borrow.Author.Needs.{needs}
 use mathlib.Core.Path.{refl}
 use Rattle.timer_c.proofs.Exported.{answers-none}

@@ -1,3 +1,4 @@
+-- `timer_c::hc_get_clock` meets its contract: status and numbers are those of `get_clock`'s reading, so its equation is the timer's. Assumes nothing.
 use borrow.Author.Needs.{needs}
 use Rattle.timer_c.proofs.Exported.{reads-all}
 use Rattle.timer_c.proofs.hc_get_clock.Statement.{statement}

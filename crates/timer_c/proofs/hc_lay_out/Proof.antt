@@ -1,3 +1,4 @@
+-- `timer_c::hc_lay_out` meets its contract: the status is that of `lay_out`'s answer, and the number of that answer is 0, done or refused. Assumes nothing.
 use borrow.Author.Needs.{needs}
 use mathlib.Core.Path.{refl}
 use Rattle.timer_c.proofs.Exported.{answers-none}

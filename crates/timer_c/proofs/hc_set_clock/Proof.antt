@@ -1,3 +1,5 @@
+-- `timer_c::hc_set_clock` meets its contract: the wall time is that of the seven numbers, and status and count are those of `set_clock`'s answer,
+-- so its equation is the timer's. Assumes nothing.
 use borrow.Author.Needs.{needs}
 use Rattle.timer_c.proofs.Exported.{answers}
 use Rattle.timer_c.proofs.hc_set_clock.Statement.{statement}

@@ -1,3 +1,4 @@
+-- `timer_c::hc_tick` meets its contract: status and number are those of `tick`'s answer, so its equation is the timer's. Assumes nothing.
 use borrow.Author.Needs.{needs}
 use Rattle.timer_c.proofs.Exported.{answers}
 use Rattle.timer_c.proofs.hc_tick.Statement.{statement}

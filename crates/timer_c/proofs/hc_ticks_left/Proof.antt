@@ -1,3 +1,4 @@
+-- `timer_c::hc_ticks_left` meets its contract: status and number are those of `ticks_left`'s answer, so its equation is the timer's. Assumes nothing.
 use borrow.Author.Needs.{needs}
 use Rattle.timer_c.proofs.Exported.{answers}
 use Rattle.timer_c.proofs.hc_ticks_left.Statement.{statement}

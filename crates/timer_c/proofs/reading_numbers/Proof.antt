@@ -1,3 +1,4 @@
+-- `timer_c::reading_numbers` meets its contract: in each case the seven numbers are those that `readingNumbers` has for it. Assumes nothing.
 use borrow.Author.Needs.{needs}
 use mathlib.Core.Path.{sym, ap}
 use Rattle.timer_c.specs.Exports.{readingNumbers}
