@@ -30,7 +30,7 @@ module _ (next : ℕ → ℕ) where
   along-first f zero h = absurd (omega arith)
   along-first f (suc i) h = refl
 
-  along-zero : (f : ℕ) → along next f 0 ≡ []
+  pub along-zero : (f : ℕ) → along next f 0 ≡ []
   along-zero zero = refl
   along-zero (suc f) = refl
 

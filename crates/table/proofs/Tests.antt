@@ -9,7 +9,7 @@ use lib.Bits.{bitOr, or-add-and, and-le-l, and-le-r}
 use lib.Dec.{eqb}
 use borrow.Author.Tests.{eqb-true, eq-eqb, not-true, not-false}
 use Rattle.calendar.specs.Calendar.{allOf}
-use Rattle.model.proofs.ListLaws.{cases, clash, all-at, all-true}
+use Rattle.model.proofs.ListLaws.{cases, clash, both, and-both}
 use Rattle.table.specs.Walks.{allZero}
 
 pub and-true : (a : Bool) → (a && true) ≡ a
@@ -49,19 +49,38 @@ exchange true false true d = refl
 exchange true false false d = refl
 exchange false b c d = refl
 
--- three numbers are zero where their bits together are
+grouped : (p a b c : Bool) → (((p && a) && b) && c) ≡ (p && (a && (b && (c && true))))
+grouped true true true c = sym (and-true c)
+grouped true true false c = refl
+grouped true false b c = refl
+grouped false a b c = refl
+
+-- two numbers are zero where their bits together are
+or-none : (a b : ℕ) → bitOr a b ≡ 0 → (a ≡ 0) × (b ≡ 0)
+or-none a b z =
+    let s = or-add-and a b in
+    let l = and-le-l a b in
+    let r = and-le-r a b in
+    (omega arith, omega arith)
+
+pub or-both : (a b : ℕ) → eqb (bitOr a b) 0 ≡ (eqb a 0 && eqb b 0)
+or-both a b =
+    same (eqb (bitOr a b) 0) (eqb a 0 && eqb b 0)
+    (λ e.
+    let z = or-none a b (eqb-true (bitOr a b) 0 e) in
+    and-both (eqb a 0) (eqb b 0) (eq-eqb a 0 (z .0)) (eq-eqb b 0 (z .1)))
+    (λ e.
+    let h = both (eqb a 0) (eqb b 0) e in
+    rw (eqb-true a 0 (h .0), eqb-true b 0 (h .1)))
+
+-- and three, and six
 pub or-zero : (a b c : ℕ) → eqb (bitOr (bitOr a b) c) 0 ≡ allZero a b c
-or-zero a b c =
-    same (eqb (bitOr (bitOr a b) c) 0) (allZero a b c)
-    (λ e.
-    let z = eqb-true (bitOr (bitOr a b) c) 0 e in
-    let s = or-add-and (bitOr a b) c in
-    let sl = and-le-l (bitOr a b) c in
-    let sr = and-le-r (bitOr a b) c in
-    let r = or-add-and a b in
-    let rl = and-le-l a b in
-    let rr = and-le-r a b in
-    all-true (eqb a 0 ∷ eqb b 0 ∷ eqb c 0 ∷ []) (eq-eqb a 0 (omega arith), (eq-eqb b 0 (omega arith), (eq-eqb c 0 (omega arith), tt))))
-    (λ e.
-    let at = all-at (eqb a 0 ∷ eqb b 0 ∷ eqb c 0 ∷ []) e in
-    rw (eqb-true a 0 (at 0), eqb-true b 0 (at 1), eqb-true c 0 (at 2)))
+or-zero a b c = or-both (bitOr a b) c ∙ ap (λ (x : Bool). x && eqb c 0) (or-both a b) ∙ grouped true (eqb a 0) (eqb b 0) (eqb c 0)
+
+pub or-zeros : (a b c d e f : ℕ) → eqb (bitOr (bitOr (bitOr (bitOr (bitOr a b) c) d) e) f) 0 ≡ (allZero a b c && allZero d e f)
+or-zeros a b c d e f =
+    let abc = bitOr (bitOr a b) c in
+    or-both (bitOr (bitOr abc d) e) f
+    ∙ ap (λ (x : Bool). x && eqb f 0)
+    (or-both (bitOr abc d) e ∙ ap (λ (x : Bool). x && eqb e 0) (or-both abc d ∙ ap (λ (x : Bool). x && eqb d 0) (or-zero a b c)))
+    ∙ grouped (allZero a b c) (eqb d 0) (eqb e 0) (eqb f 0)

@@ -1,5 +1,5 @@
--- A walk of as many steps as there are slots of the chain's kind decides the chain and its waits. A walk is its links and its waits. The
--- links end at 0, so they meet no slot twice; they meet slots of the kind only; and the sum over all slots of how often each is met is the
+-- A walk that tests everything, of as many steps as there are slots of the chain's kind, decides the chain and its waits. A walk is its links and
+-- its waits. The links end at 0, so they meet no slot twice; they meet slots of the kind only; and the sum over all slots of how often each is met is the
 -- number of steps, which is the number of slots of the kind: so each of those is met once. Assumes nothing.
 use Prim.Native.Nat.{ℕ, zero, suc, _+_, _≤_, _<_}
 use mathlib.Core.Path.{_≡_, refl, sym, ap, _∙_, subst}
@@ -9,7 +9,7 @@ use native.Mathlib.Omega.{arith}
 use lib.ListN.{length}
 use lib.Dec.{leb, eqb}
 use borrow.Author.Tests.{eqb-true, eqb-false, eq-eqb, le-leb, leb-true}
-use Rattle.calendar.specs.Calendar.{lastSecond}
+use Rattle.calendar.specs.Calendar.{allOf, lastSecond}
 use Rattle.model.specs.Lists.{every, allUp, All}
 use Rattle.model.specs.declared.Chain.{Chain}
 use Rattle.model.specs.declared.Chain.the-variants.{ByTicks, ByDate}
@@ -18,16 +18,56 @@ use Rattle.model.specs.State.{Link}
 use Rattle.model.specs.Words.{word, field, headWord, along, total, linksFrom}
 use Rattle.model.specs.Sound.{previousSound, chainSound, firstSound, ticksSound, rising, datesSound}
 use Rattle.model.proofs.ListLaws.{cases, both, and-both, all-at, all-true, all-up, up-at, every-true, every-all, all-map}
-use Rattle.table.specs.Walks.{standing, origin, start, linkSound, waitSound, stepSound, walk, waiting}
+use Rattle.table.specs.Walks.{Stand, standing, origin, start, step, waiting}
 use Rattle.table.proofs.Tests.{same, exchange, and-true}
-use Rattle.table.proofs.StepTests.{in-chain, chain-in}
 use Rattle.table.proofs.Sums.{times, sumUp, sum-same, sum-few, sum-times, sum-tight, none-times}
 use Rattle.table.proofs.Steps.{Ends, along-first, along-more, ends-length, ends-of, once, along-low, links-first, links-more}
 
--- what document 01 says of a chain's waits
+-- ---- what document 01 says of a chain's waits
 abbrev pub waitsSound : Chain → List ℕ → Bool
 waitsSound ByTicks t = ticksSound t
 waitsSound ByDate t = datesSound t
+
+-- ---- the walk that tests everything
+
+-- slot i of n is of that kind, and slot p stands before it
+unfoldable pub linkSound : List ℕ → ℕ → ℕ → ℕ → ℕ → Bool
+linkSound t n kind i p = allOf (leb 1 i ∷ leb i n ∷ eqb (field t 0 i) kind ∷ eqb (field t 7 i) p ∷ [])
+
+-- Ticks left are 1 at least and not above the interval. A date is not below the one before it, and not past the last second.
+abbrev pub waitSound : Chain → List ℕ → ℕ → ℕ → Bool
+waitSound ByTicks t i b = leb 1 (b + field t 3 i) && leb (b + field t 3 i) (field t 2 i)
+waitSound ByDate t i b = leb b (field t 3 i) && leb (field t 3 i) lastSecond
+
+abbrev pub stepSound : Chain → List ℕ → ℕ → Stand → Bool
+stepSound k t n x = linkSound t n (waitingKind k) (x .slot) (x .before) && waitSound k t (x .slot) (x .reached)
+
+-- c steps, and then the end of the chain
+unfoldable pub walk : Chain → List ℕ → ℕ → ℕ → Stand → Bool
+walk k t n zero x = eqb (x .slot) 0
+walk k t n (suc c) x = stepSound k t n x && walk k t n c (step k t x)
+
+pub record InChain (t : List ℕ) (n k i p : ℕ) : Type 0 where
+  pub low : 1 ≤ i
+  pub high : i ≤ n
+  pub kind : field t 0 i ≡ k
+  pub previous : field t 7 i ≡ p
+
+module _ (t : List ℕ) (n kind i p : ℕ) where
+  abbrev linkTests : List Bool
+  linkTests = leb 1 i ∷ leb i n ∷ eqb (field t 0 i) kind ∷ eqb (field t 7 i) p ∷ []
+
+  pub in-chain : linkSound t n kind i p ≡ true → InChain t n kind i p
+  unfolding linkSound
+  in-chain e =
+      let at = all-at linkTests e in
+      record { low = leb-true 1 i (at 0); high = leb-true i n (at 1); kind = eqb-true (field t 0 i) kind (at 2); previous = eqb-true (field t 7 i) p (at 3) }
+
+  pub chain-in : InChain t n kind i p → linkSound t n kind i p ≡ true
+  unfolding linkSound
+  chain-in h =
+      all-true linkTests
+      (le-leb 1 i (h .low), (le-leb i n (h .high), (eq-eqb (field t 0 i) kind (h .kind), (eq-eqb (field t 7 i) p (h .previous), tt))))
 
 module _ (k : Chain) (t : List ℕ) where
   -- 1 where slot j waits in the chain
@@ -56,7 +96,7 @@ module _ (k : Chain) (t : List ℕ) where
   waited (suc c) i b = waitSound k t i b && waited c (field t 6 i) (total k b (field t 3 i))
 
   walk-split : (n c i p b : ℕ) → walk k t n c (standing i p b) ≡ (linked n c i p && waited c i b)
-  unfolding walk stepSound
+  unfolding walk
   walk-split n zero i p b = sym (and-true (eqb i 0))
   walk-split n (suc c) i p b =
       let b′ = total k b (field t 3 i) in
@@ -181,6 +221,13 @@ module _ (k : Chain) (t : List ℕ) where
         (omega (arith, r .0 .1), f y (r .0 .0) (r .0 .1) (rw (eq-eqb y y refl) (omega arith))),
         sort ys (r .1) (λ x p q s. f x p q (cases (eqb y x) (λ e. rw e (omega arith)) (λ e. rw e s))),
       )
+
+  pub met-once : chainSound k t ≡ true → (j : ℕ) → 1 ≤ j → j ≤ N → field t 0 j ≡ waitingKind k → times j (along (field t 6) N head) ≡ 1
+  unfolding chainSound
+  met-once e j a b q =
+      let l = along (field t 6) N head in
+      eqb-true (times j l) (waits j) (up-at (λ i. eqb (times i l) (waits i)) 1 N (all-at (chainTests l) e 2) j a (omega arith))
+      ∙ rw (eq-eqb (field t 0 j) (waitingKind k) q)
 
 -- ---- the waits
 

@@ -1,10 +1,11 @@
-// The tests of which the soundness check is made: the header, a slot by its kind, and a step along each chain.
+// The tests of which the soundness check is made: the header, a slot by its kind, a step along each chain, and the end of the dated one.
 ghost use mathlib.Core.Path.{_≡_};
+ghost use mathlib.Core.Bool.{_&&_};
 ghost use Prim.Native.Nat.{_+_, _*_, _<_, _≤_};
 ghost use lib.ListN.{length};
 ghost use Rattle.model.specs.declared.Chain.the-variants.{ByTicks, ByDate};
-ghost use Rattle.model.specs.Sound.{headerSound, slotSound, unlinked, unstarted};
-ghost use Rattle.table.specs.Walks.{allZero, linkSound, stepSound, standing};
+ghost use Rattle.model.specs.Sound.{headerSound, unlinked, unstarted};
+ghost use Rattle.table.specs.Walks.{allZero, headsTested, slotTested, linkTested, stepTested, endTested, standing};
 use super::*;
 use calendar::LAST_SECOND;
 
@@ -13,6 +14,13 @@ pub(crate) fn all_zero(a: u32, b: u32, c: u32) -> bool
     ensures { λ r. ⌜ r ≡ allZero a b c ⌝ }
 {
     (a | b | c) == 0
+}
+
+// All six are zero.
+pub(crate) fn all_six_zero(a: u32, b: u32, c: u32, d: u32, e: u32, f: u32) -> bool
+    ensures { λ r. ⌜ r ≡ (allZero a b c && allZero d e f) ⌝ }
+{
+    (a | b | c | d | e | f) == 0
 }
 
 // Ticks left are added in 64 bits, so that no sum of two words wraps.
@@ -64,6 +72,17 @@ pub(crate) fn header_sound(t: &[u32]) -> bool
     all_zero(t[SECONDS], t[TICKS], t[FIRST_DATED])
 }
 
+// The chains do not begin at the same slot.
+pub(crate) fn heads_tested(t: &[u32]) -> bool
+    requires { ⌜ 10 ≤ length (now t) ⌝ }
+    ensures { λ r. ⌜ r ≡ headsTested (now (t .entry)) ⌝ }
+{
+    if t[FIRST_TICKING] != t[FIRST_DATED] {
+        return true;
+    }
+    t[FIRST_TICKING] == 0
+}
+
 // Wait, next and previous of slot i are zero.
 pub(crate) fn is_unlinked(t: &[u32], i: u32) -> bool
     requires { ⌜ 8 * i + 10 ≤ length (now t) ⌝ }
@@ -72,26 +91,30 @@ pub(crate) fn is_unlinked(t: &[u32], i: u32) -> bool
     all_zero(get(t, i, WAIT), get(t, i, NEXT), get(t, i, PREVIOUS))
 }
 
-// Interval, routine and user data of slot i are zero.
-pub(crate) fn is_unstarted(t: &[u32], i: u32) -> bool
+// Interval, routine and user data of slot i are zero, and wait, next and previous.
+pub(crate) fn is_blank(t: &[u32], i: u32) -> bool
     requires { ⌜ 8 * i + 10 ≤ length (now t) ⌝ }
-    ensures { λ r. ⌜ r ≡ unstarted (now (t .entry)) i ⌝ }
+    ensures { λ r. ⌜ r ≡ (unstarted (now (t .entry)) i && unlinked (now (t .entry)) i) ⌝ }
 {
-    all_zero(get(t, i, INTERVAL), get(t, i, ROUTINE), get(t, i, DATA))
+    all_six_zero(
+        get(t, i, INTERVAL),
+        get(t, i, ROUTINE),
+        get(t, i, DATA),
+        get(t, i, WAIT),
+        get(t, i, NEXT),
+        get(t, i, PREVIOUS),
+    )
 }
 
-// The words of slot i, by its kind. The wait and the links of a waiting slot are left to the walks.
-pub(crate) fn slot_sound(t: &[u32], i: u32) -> bool
+// The words of slot i, by its kind. The wait and the links of a waiting slot are left to the walks, and so is the interval of kind 4.
+pub(crate) fn slot_tested(t: &[u32], i: u32) -> bool
     requires { ⌜ 8 * i + 10 ≤ length (now t) ⌝ }
-    ensures { λ r. ⌜ r ≡ slotSound (now (t .entry)) i ⌝ }
+    ensures { λ r. ⌜ r ≡ slotTested (now (t .entry)) i ⌝ }
 {
     let kind = get(t, i, KIND);
     let name = get(t, i, NAME);
     if kind <= NEVER_STARTED {
-        if !is_unlinked(t, i) {
-            return false;
-        }
-        if !is_unstarted(t, i) {
+        if !is_blank(t, i) {
             return false;
         }
         if kind == FREE {
@@ -105,10 +128,10 @@ pub(crate) fn slot_sound(t: &[u32], i: u32) -> bool
     if get(t, i, ROUTINE) < 1 {
         return false;
     }
-    let interval = get(t, i, INTERVAL);
     if kind == WAITING_TICKS {
-        return 0 < interval;
+        return true;
     }
+    let interval = get(t, i, INTERVAL);
     if kind == WAITING_DATE {
         return interval == 0;
     }
@@ -124,10 +147,10 @@ pub(crate) fn slot_sound(t: &[u32], i: u32) -> bool
     false
 }
 
-// Slot i of n is of that kind, and slot p stands before it.
-pub(crate) fn link_sound(t: &[u32], n: u32, kind: u32, i: u32, p: u32) -> bool
+// Slot i is one of n, and slot p stands before it.
+pub(crate) fn link_tested(t: &[u32], n: u32, i: u32, p: u32) -> bool
     requires { ⌜ 8 * n + 10 ≤ length (now t) ⌝ }
-    ensures { λ r. ⌜ r ≡ linkSound (now (t .entry)) n kind i p ⌝ }
+    ensures { λ r. ⌜ r ≡ linkTested (now (t .entry)) n i p ⌝ }
 {
     if i < 1 {
         return false;
@@ -135,18 +158,15 @@ pub(crate) fn link_sound(t: &[u32], n: u32, kind: u32, i: u32, p: u32) -> bool
     if n < i {
         return false;
     }
-    if get(t, i, KIND) != kind {
-        return false;
-    }
     get(t, i, PREVIOUS) == p
 }
 
 // Slot i of n may stand in the interval chain behind slot p, which has b ticks left.
-pub(crate) fn tick_sound(t: &[u32], n: u32, i: u32, p: u32, b: u64) -> bool
+pub(crate) fn tick_tested(t: &[u32], n: u32, i: u32, p: u32, b: u64) -> bool
     requires { ⌜ (8 * n + 10 ≤ length (now t)) × (b < 4294967296) ⌝ }
-    ensures { λ r. ⌜ r ≡ stepSound ByTicks (now (t .entry)) n (standing i p b) ⌝ }
+    ensures { λ r. ⌜ r ≡ stepTested ByTicks (now (t .entry)) n (standing i p b) ⌝ }
 {
-    if !link_sound(t, n, WAITING_TICKS, i, p) {
+    if !link_tested(t, n, i, p) {
         return false;
     }
     let left = b + wide(get(t, i, WAIT));
@@ -157,16 +177,25 @@ pub(crate) fn tick_sound(t: &[u32], n: u32, i: u32, p: u32, b: u64) -> bool
 }
 
 // Slot i of n may stand in the dated chain behind slot p, where no date may be below d.
-pub(crate) fn date_sound(t: &[u32], n: u32, i: u32, p: u32, d: u32) -> bool
+pub(crate) fn date_tested(t: &[u32], n: u32, i: u32, p: u32, d: u32) -> bool
     requires { ⌜ 8 * n + 10 ≤ length (now t) ⌝ }
-    ensures { λ r. ⌜ r ≡ stepSound ByDate (now (t .entry)) n (standing i p d) ⌝ }
+    ensures { λ r. ⌜ r ≡ stepTested ByDate (now (t .entry)) n (standing i p d) ⌝ }
 {
-    if !link_sound(t, n, WAITING_DATE, i, p) {
+    if !link_tested(t, n, i, p) {
         return false;
     }
-    let date = get(t, i, WAIT);
-    if date < d {
+    d <= get(t, i, WAIT)
+}
+
+// The walk along the dated chain is over, i being 0. If it met a slot, the last of them is p and d its date, which no other is above.
+pub(crate) fn dates_ended(i: u32, p: u32, d: u32) -> bool
+    ensures { λ r. ⌜ r ≡ endTested ByDate (standing i p d) ⌝ }
+{
+    if i != 0 {
         return false;
     }
-    date <= LAST_SECOND
+    if p == 0 {
+        return true;
+    }
+    d <= LAST_SECOND
 }
