@@ -5,7 +5,7 @@ use mathlib.Core.List.{List, map}
 use lib.ListN.{length}
 use lib.Seq.{sets}
 use Rattle.model.specs.declared.Chain.{Chain}
-use Rattle.model.specs.State.{State, listed}
+use Rattle.model.specs.State.{listed}
 use Rattle.model.specs.Directives.{due, fire}
 use Rattle.model.specs.Words.{read, over}
 use Rattle.model.specs.Outcome.{entryWords}

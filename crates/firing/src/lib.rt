@@ -27,12 +27,15 @@ use table::WAIT;
 use table::get;
 use table::put;
 
+// Words of the fired list for each timer: id, routine, user data.
+pub const ENTRY: usize = 3;
+
 // Entry n of the fired list.
 fn put_entry(list: &mut [u32], n: u32, id: u32, routine: u32, user_data: u32)
     requires { ⌜ (3 * n + 3 ≤ length (now list)) × (n < 256) ⌝ }
     ensures { λ _. ⌜ now (list .exit) ≡ sets (now (list .entry)) (3 * n) (id ∷ routine ∷ user_data ∷ []) ⌝ }
 {
-    let at = 3 * (n as usize);
+    let at = ENTRY * (n as usize);
     list[at] = id;
     list[at + 1] = routine;
     list[at + 2] = user_data;

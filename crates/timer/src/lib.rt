@@ -14,6 +14,7 @@ ghost use Rattle.timer.specs.Answers.{left, reads};
 use calendar::Date;
 use calendar::Instant;
 use calendar::WallTime;
+use firing::ENTRY;
 use firing::come_nearer;
 use firing::fire;
 use firing::step_clock;
@@ -40,9 +41,6 @@ pub enum Reading {
     Time(WallTime),
     Unread(Status),
 }
-
-// Three words of the fired list for each timer: id, routine, user data.
-const ENTRY: usize = 3;
 
 // The numbers of a lay out are within their limits.
 fn within_limits(slots: u32, rate: u32) -> bool
