@@ -23,7 +23,7 @@ use Rattle.model.proofs.Spelling.{length-over}
 use Rattle.model.proofs.ReadBack.{slots-length, slot-read}
 use Rattle.model.proofs.Steps.{rechain-slots, rechain-own, chained-stopped, length-stopped, length-fire}
 use Rattle.links.specs.Places.{InTable}
-use Rattle.firing.specs.Lists.{Room, Fires}
+use Rattle.firing.specs.Lists.{Room, FiresOne, Fires}
 use Rattle.firing.proofs.Entries.{listed-idle}
 use Rattle.firing.proofs.Heads.{Front, front, no-front}
 use Rattle.firing.proofs.NextState.{Next, next-start, next-read, next-holds, next-then, next-fires}
@@ -92,12 +92,6 @@ none-due k t l limit n h late =
 abbrev after : {k : Chain} {t : List ℕ} {i : ℕ} → Front k t i → State
 after {k} {t} a = fired k (read t) (a .entry) (a .back)
 
--- slot i stopped, and was written as entry n
-abbrev pub FiresOne : List ℕ → List ℕ → ℕ → ℕ → List ℕ → List ℕ → Type 0
-FiresOne t l n i t′ l′ =
-    (t′ ≡ over (stopped (read t) i (idled (slotAt (read t .slots) i))) t)
-    × (l′ ≡ sets l (3 * n) ((idBase + i) ∷ field t 4 i ∷ field t 5 i ∷ []))
-
 module _ {k : Chain} {t l : List ℕ} {limit n i : ℕ} (r : Room k t l limit n) (a : Front k t i) (low : a .entry .wait ≤ limit) where
   due-is : due k limit (read t) ≡ a .entry ∷ due k limit (after a)
   due-is = due-first k limit (read t) (a .entry) (a .back) (a .whole) low
@@ -134,7 +128,7 @@ module _ {k : Chain} {t l : List ℕ} {limit n i : ℕ} (r : Room k t l limit n)
         let x = slotAt (read t .slots) i in
         next-then (next-start (r .holds)) (λ s. stopped s i (idled (slotAt (s .slots) i)))
         (chained-stopped (read t) (r .holds .chained) i (idled x) (a .low) (a .high) (λ j. idle-not-waiting j (x .kind)))
-        (length-stopped (read t) i (idled x)) refl (e .0)
+        (length-stopped (read t) i (idled x)) refl (e .table)
 
     read-after : read t′ ≡ after a
     read-after = next-read next ∙ stopped-is
@@ -149,7 +143,7 @@ module _ {k : Chain} {t l : List ℕ} {limit n i : ℕ} (r : Room k t l limit n)
 
     room-next : Room k t′ l′ limit (n + 1)
     room-next =
-        let same = ap length (e .1) ∙ length-sets l (3 * n) ((idBase + i) ∷ field t 4 i ∷ field t 5 i ∷ []) in
+        let same = ap length (e .entry) ∙ length-sets l (3 * n) ((idBase + i) ∷ field t 4 i ∷ field t 5 i ∷ []) in
         record {
           holds = next-holds next;
           fits = omega (arith, r .fits, ap length due-next, same);
@@ -169,7 +163,7 @@ module _ {k : Chain} {t l : List ℕ} {limit n i : ℕ} (r : Room k t l limit n)
         record {
           count = omega (arith, f .count, ap length due-next);
           table = next-fires next f .is ∙ ap (λ (z : State). over z t) same;
-          entries = f .entries ∙ ap₂ (λ (x : List ℕ) (b : ℕ). sets x b (entryWords (map (listed (read t′ .slots)) later))) (e .1) three
+          entries = f .entries ∙ ap₂ (λ (x : List ℕ) (b : ℕ). sets x b (entryWords (map (listed (read t′ .slots)) later))) (e .entry) three
               ∙ ap (λ (x : List Fired). sets l (3 * n) ((idBase + i) ∷ field t 4 i ∷ field t 5 i ∷ entryWords x)) es
               ∙ ap (sets l (3 * n)) (entry-is (entryWords (map (listed (read t .slots)) later)))
               ∙ ap (λ (x : List Link). sets l (3 * n) (entryWords (map (listed (read t .slots)) x))) (sym due-next);

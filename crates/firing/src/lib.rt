@@ -5,13 +5,13 @@ ghost use mathlib.Core.List.{[], _∷_};
 ghost use Prim.Native.Nat.{_+_, _*_, _<_, _≤_};
 ghost use lib.ListN.{length};
 ghost use lib.Seq.{sets};
-ghost use Rattle.model.specs.State.{slotAt, idBase, reclock};
-ghost use Rattle.model.specs.Directives.{stopped, idled, nearer, clockAt, clockStep};
-ghost use Rattle.model.specs.Words.{word, field, read, over};
+ghost use Rattle.model.specs.State.{reclock};
+ghost use Rattle.model.specs.Directives.{nearer, clockAt, clockStep};
+ghost use Rattle.model.specs.Words.{word, read, over};
 ghost use Rattle.model.specs.Sound.{sound};
 ghost use Rattle.model.proofs.WellFormed.{Holds};
 ghost use Rattle.links.specs.Places.{InTable};
-ghost use Rattle.firing.specs.Lists.{Room, Fires};
+ghost use Rattle.firing.specs.Lists.{Room, FiresOne, Fires};
 use links::follower;
 use links::stop;
 use model::Chain;
@@ -44,7 +44,7 @@ fn put_entry(list: &mut [u32], n: u32, id: u32, routine: u32, user_data: u32)
 // Slot i fires, as entry n.
 fn fire_one(t: &mut [u32], list: &mut [u32], n: u32, i: u32)
     requires { ⌜ InTable (now t) i × (3 * n + 3 ≤ length (now list)) × (n < 256) ⌝ }
-    ensures { λ _. ⌜ (now (t .exit) ≡ over (stopped (read (now (t .entry))) i (idled (slotAt (read (now (t .entry)) .slots) i))) (now (t .entry))) × (now (list .exit) ≡ sets (now (list .entry)) (3 * n) ((idBase + i) ∷ field (now (t .entry)) 4 i ∷ field (now (t .entry)) 5 i ∷ [])) ⌝ }
+    ensures { λ _. ⌜ FiresOne (now (t .entry)) (now (list .entry)) n i (now (t .exit)) (now (list .exit)) ⌝ }
 {
     let routine = get(t, i, ROUTINE);
     let user_data = get(t, i, DATA);

@@ -99,7 +99,12 @@ pub record Listed (es : List Event) (e : Event) (g : Placed) : Type 0 where
   pub due : wasDue (also e g) ≡ true
 
 listed-of : (es : List Event) (e : Event) (g : Placed) → From es g → fires e g ≡ true → Listed es e g
-listed-of es e g p f = record { place = p; not-ended = ended (wasEnded g) (wasDue g) (wasDue (also e g)) f; not-due-before = before (wasEnded g) (wasDue g) (wasDue (also e g)) f; due = now (wasEnded g) (wasDue g) (wasDue (also e g)) f }
+listed-of es e g p f = record {
+  place = p;
+  not-ended = ended (wasEnded g) (wasDue g) (wasDue (also e g)) f;
+  not-due-before = before (wasEnded g) (wasDue g) (wasDue (also e g)) f;
+  due = now (wasEnded g) (wasDue g) (wasDue (also e g)) f;
+}
   where
     ended : (a b c : Bool) → ((not a && not b) && c) ≡ true → a ≡ false
     ended true b c f = clash (sym f)

@@ -208,7 +208,8 @@ module _ (s : State) (A h : List Event) (v : Agrees s A h) (id i : ℕ) (is : id
         let sl = putAt (s .slots) i x in
         map-place (shown sl) (λ w. w .wait) (λ w. w .wait) (record { slot = i; wait = amount d }) (without i (chainOf k s))
         (all (λ y. leb (y .wait) (amount d) ≡ leb (y .wait) (amount d)) (λ y. refl) (without i (chainOf k s)))
-        ∙ ap₂ (λ (n : ℕ) (y : Slot). place (λ w. w .wait) (record { shows = record { id = n; routine = y .routine; userData = y .userData }; wait = amount d }) (map (shown sl) (without i (chainOf k s))))
+        ∙ ap₂ (λ (n : ℕ) (y : Slot). place (λ w. w .wait)
+        (record { shows = record { id = n; routine = y .routine; userData = y .userData }; wait = amount d }) (map (shown sl) (without i (chainOf k s))))
         (sym is) (at-same (s .slots) i x low high)
         ∙ ap (place (λ w. w .wait) (record { shows = record { id = id; routine = r; userData = u }; wait = amount d })) (without-slot x (chainOf k s) ∙ ap rest (v .chain k))
         ∙ sym (chain-start k A id (beginning id d r u) here (soon (starting id d r u ∷ reverseAux A [])))

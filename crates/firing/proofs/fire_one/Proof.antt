@@ -34,10 +34,11 @@ same-length-2 c = search needs
 
 returns : tie.Need-returns
 returns c =
-    let listing = c .before .before .before .before .before .before in (
-      c .before .before .stop .ensures,
-      rw (← listing .before .before .before .before .get .ensures, ← listing .before .before .get2 .ensures) (listing .put-entry .ensures),
-    )
+    let listing = c .before .before .before .before .before .before in
+    record {
+      table = c .before .before .stop .ensures;
+      entry = rw (← listing .before .before .before .before .get .ensures, ← listing .before .before .get2 .ensures) (listing .put-entry .ensures);
+    }
 
 pub fire-one-spec : {M : Type 1} → statement M
 fire-one-spec =
