@@ -10,14 +10,14 @@ use lib.Seq.{sets}
 use lib.Dec.{leb}
 use Rattle.model.specs.declared.Chain.{Chain}
 use Rattle.model.specs.declared.Chain.the-variants.{ByTicks, ByDate}
-use Rattle.model.specs.State.{Link, State, Fired, reclock, listed}
-use Rattle.model.specs.Directives.{due, fire, nearer, clockAt, clockStep, Effect, ticked, clockMoved}
+use Rattle.model.specs.State.{Link, State, Fired, chainOf, reclock, listed}
+use Rattle.model.specs.Directives.{due, fire, nearer, clockAt, clockStep, Effect, firing}
 use Rattle.model.specs.Words.{word, read, over}
 use Rattle.model.specs.Sound.{sound}
 use Rattle.model.specs.Outcome.{entryWords, written}
 use Rattle.model.proofs.ListLaws.{length-keep}
 use Rattle.model.proofs.WellFormed.{Chained, Holds}
-use Rattle.model.proofs.Chains.{fit-both}
+use Rattle.model.proofs.Chains.{fits, fit-both}
 use Rattle.model.proofs.ReadBack.{slots-length}
 use Rattle.model.proofs.Steps.{chained-nearer, chained-reclock}
 use Rattle.model.proofs.SoundHolds.{sound-holds, sound-well-formed}
@@ -27,6 +27,18 @@ use Rattle.firing.proofs.NextState.{Next, next-start, next-read, next-h
 use Rattle.firing.proofs.Due.{fires-list-length}
 
 -- ---- the whole call
+
+-- A tick that fires interval timers with so many ticks left and dated ones up to a second; a set clock that fires one chain up to a limit.
+-- The model's tick fires at 0 ticks left and up to its clock's second, its set clock the dated chain up to the second given.
+abbrev pub tickedTo : ℕ → ℕ → State → List ℕ → Effect
+tickedTo limit second s list =
+    let near = nearer s in
+    let later = reclock (fire ByTicks limit near) (clockStep (s .clock)) in
+    firing (fire ByDate second later) (due ByTicks limit near ++ due ByDate second later) list
+
+abbrev pub movedTo : Chain → ℕ → State → ℕ → List ℕ → Effect
+movedTo k limit s second list =
+    let later = reclock s (clockAt (s .clock) second 0) in firing (fire k limit later) (due k limit later) list
 
 -- the words are those that a call leaves, with its answer
 pub record Leaves (t list : List ℕ) (e : Effect) (m : ℕ) (u list′ : List ℕ) : Type 0 where
@@ -41,24 +53,17 @@ module _ (t list : List ℕ) (ok : sound t ≡ true) (long : 3 * word t 0 ≤ le
   chained : Chained (read t)
   chained = sound-holds t ok .chained
 
+  -- whatever is due of one chain has room behind n entries, where that chain and they are no more than the slots
   room-for : {s : State} {u : List ℕ} → Next t s u → (k : Chain) (limit n : ℕ) (l : List ℕ) → length l ≡ length list
-      → n + length (due k limit s) ≤ length (read t .slots) → Room k u l limit n
+      → n + length (chainOf k s) ≤ length (read t .slots) → Room k u l limit n
   room-for {s} {u} x k limit n l e p =
       let same = ap (λ (z : State). length (due k limit z)) (next-read x) in
+      let some = length-keep (λ w. leb (w .wait) limit) (chainOf k s) in
       record {
         holds = next-holds x;
-        fits = omega (arith, same, slots-length t, long);
-        few = omega (arith, same, chained .few);
+        fits = omega (arith, same, some, slots-length t, long);
+        few = omega (arith, same, some, chained .few);
       }
-
-  -- all that is due is in the chains, and both have no more links than there are slots
-  few-due : (second : ℕ) → length (due ByTicks 0 (nearer (read t))) + length (due ByDate second (read t)) ≤ length (read t .slots)
-  few-due second = omega (
-    arith,
-    length-keep (λ w. leb (w .wait) 0) (nearer (read t) .ticking),
-    length-keep (λ w. leb (w .wait) second) (read t .dated),
-    fit-both (nearer (read t)) (chained-nearer (read t) chained),
-  )
 
   -- the fired list, written at once
   at-once : (ws : List Link) → length ws ≤ length (read t .slots)
@@ -66,17 +71,20 @@ module _ (t list : List ℕ) (ok : sound t ≡ true) (long : 3 * word t 0 ≤ le
   at-once ws p =
       sets-written (map (listed (read t .slots)) ws) list (omega (arith, length-map ws (listed (read t .slots)), slots-length t, long))
 
-  -- ---- a tick
+  -- ---- a tick, whatever the limits up to which it fires
 
   module _ {u₁ : List ℕ} (e₁ : u₁ ≡ over (nearer (read t)) t) where
     after-nearer : Next t (nearer (read t)) u₁
     after-nearer = next-then start nearer (chained-nearer (read t) chained) refl refl e₁
 
-    pub nearer-room : Room ByTicks u₁ list 0 0
-    nearer-room = room-for after-nearer ByTicks 0 0 list refl (omega (arith, few-due 0))
+    few-both : length (nearer (read t) .ticking) + length (read t .dated) ≤ length (read t .slots)
+    few-both = fit-both (nearer (read t)) (chained-nearer (read t) chained)
 
-    module _ {n : ℕ} {u₂ list₂ : List ℕ} (f₁ : Fires ByTicks u₁ list 0 0 n u₂ list₂) where
-      after-first : Next t (fire ByTicks 0 (nearer (read t))) u₂
+    pub nearer-room : (limit : ℕ) → Room ByTicks u₁ list limit 0
+    nearer-room limit = room-for after-nearer ByTicks limit 0 list refl (omega (arith, few-both))
+
+    module _ {limit n : ℕ} {u₂ list₂ : List ℕ} (f₁ : Fires ByTicks u₁ list limit 0 n u₂ list₂) where
+      after-first : Next t (fire ByTicks limit (nearer (read t))) u₂
       after-first = next-fires after-nearer f₁
 
       pub first-holds : Holds u₂ (read u₂)
@@ -86,52 +94,56 @@ module _ (t list : List ℕ) (ok : sound t ≡ true) (long : 3 * word t 0 ≤ le
       first-into =
           let w = sound-well-formed t ok in omega (arith, ap (λ (z : State). z .clock .ticksInto) (next-read after-first), w .into, w .per-high)
 
-      first-count : n ≡ length (due ByTicks 0 (nearer (read t)))
-      first-count = omega (arith, f₁ .count, ap (λ (z : State). length (due ByTicks 0 z)) (next-read after-nearer))
+      first-count : n ≡ length (due ByTicks limit (nearer (read t)))
+      first-count = omega (arith, f₁ .count, ap (λ (z : State). length (due ByTicks limit z)) (next-read after-nearer))
 
-      first-entries : list₂ ≡ sets list 0 (entryWords (map (listed (read t .slots)) (due ByTicks 0 (nearer (read t)))))
+      first-few : n ≤ length (nearer (read t) .ticking)
+      first-few = omega (arith, first-count, length-keep (λ w. leb (w .wait) limit) (nearer (read t) .ticking))
+
+      first-entries : list₂ ≡ sets list 0 (entryWords (map (listed (read t .slots)) (due ByTicks limit (nearer (read t)))))
       first-entries =
-          f₁ .entries ∙ ap (λ (z : State). sets list (3 * 0) (entryWords (map (listed (z .slots)) (due ByTicks 0 z)))) (next-read after-nearer)
+          f₁ .entries ∙ ap (λ (z : State). sets list (3 * 0) (entryWords (map (listed (z .slots)) (due ByTicks limit z)))) (next-read after-nearer)
 
       module _ {u₃ : List ℕ} (e₃ : u₃ ≡ over (reclock (read u₂) (clockStep (read u₂ .clock))) u₂) where
-        after-clock : Next t (reclock (fire ByTicks 0 (nearer (read t))) (clockStep (read t .clock))) u₃
+        after-clock : Next t (reclock (fire ByTicks limit (nearer (read t))) (clockStep (read t .clock))) u₃
         after-clock =
             next-then after-first (λ z. reclock z (clockStep (z .clock)))
-            (chained-reclock (fire ByTicks 0 (nearer (read t))) (clockStep (read t .clock)) (after-first .holds .chained)) refl refl e₃
+            (chained-reclock (fire ByTicks limit (nearer (read t))) (clockStep (read t .clock)) (after-first .holds .chained)) refl refl e₃
 
-        second-is : word u₃ 3 ≡ clockStep (read t .clock) .second
+        pub clock-long : 10 ≤ length u₃
+        clock-long = omega (arith, next-holds after-clock .long)
+
+        pub clock-room : (second : ℕ) → Room ByDate u₃ list₂ second n
+        clock-room second =
+            room-for after-clock ByDate second n list₂ (fires-list-length (nearer-room limit) f₁) (omega (arith, first-few, few-both))
+
+        pub second-is : word u₃ 3 ≡ clockStep (read t .clock) .second
         second-is = ap (λ (z : State). z .clock .second) (next-read after-clock)
 
-        pub clock-room : Room ByDate u₃ list₂ (word u₃ 3) n
-        clock-room =
-            room-for after-clock ByDate (word u₃ 3) n list₂ (fires-list-length nearer-room f₁) (omega (arith, first-count, few-due (word u₃ 3)))
-
-        pub ticked-is : {m : ℕ} {u₄ list₄ : List ℕ} → Fires ByDate u₃ list₂ (word u₃ 3) n m u₄ list₄ → Leaves t list (ticked (read t) list) m u₄ list₄
-        ticked-is {m} {u₄} {list₄} f₃ =
+        pub ticked-is : {second m : ℕ} {u₄ list₄ : List ℕ} → Fires ByDate u₃ list₂ second n m u₄ list₄ → Leaves t list (tickedTo limit second (read t) list) m u₄ list₄
+        ticked-is {second} {m} {u₄} {list₄} f₃ =
             let s = read t in
-            let later = reclock (fire ByTicks 0 (nearer s)) (clockStep (s .clock)) in
-            let first = due ByTicks 0 (nearer s) in
-            let second = due ByDate (clockStep (s .clock) .second) s in
+            let first = due ByTicks limit (nearer s) in
+            let then = due ByDate second s in
             let g = listed (s .slots) in
-            let few = few-due (clockStep (s .clock) .second) in
-            let both = length-append first second in
-            let number : m ≡ length (first ++ second) =
-            omega (arith, f₃ .count, first-count, ap₂ (λ (z : State) (x : ℕ). length (due ByDate x z)) (next-read after-clock) second-is) in
+            let both = length-append first then in
+            let number : m ≡ length (first ++ then) =
+            omega (arith, f₃ .count, first-count, ap (λ (z : State). length (due ByDate second z)) (next-read after-clock)) in
             let place : 3 * n ≡ 0 + length (entryWords (map g first)) =
             omega (arith, first-count, length-entries (map g first), length-map first g) in
             record {
-              table = next-fires after-clock f₃ .is ∙ ap (λ (x : ℕ). over (fire ByDate x later) t) second-is;
+              table = next-fires after-clock f₃ .is;
               answer = λ j. number j ∷ [];
               entries = f₃ .entries
-                  ∙ ap₂ (λ (z : State) (x : ℕ). sets list₂ (3 * n) (entryWords (map (listed (z .slots)) (due ByDate x z)))) (next-read after-clock) second-is
-                  ∙ ap₂ (λ (l : List ℕ) (es : List Fired). sets l (3 * n) (entryWords es)) first-entries (listed-idle first (s .slots) second)
-                  ∙ ap (λ (x : ℕ). sets (sets list 0 (entryWords (map g first))) x (entryWords (map g second))) place
-                  ∙ sets-append list 0 (entryWords (map g first)) (entryWords (map g second))
-                  ∙ ap (sets list 0) (sym (ap entryWords (map-append g first second) ∙ entries-append (map g first) (map g second)))
-                  ∙ at-once (first ++ second) (omega arith);
+                  ∙ ap (λ (z : State). sets list₂ (3 * n) (entryWords (map (listed (z .slots)) (due ByDate second z)))) (next-read after-clock)
+                  ∙ ap₂ (λ (l : List ℕ) (es : List Fired). sets l (3 * n) (entryWords es)) first-entries (listed-idle first (s .slots) then)
+                  ∙ ap (λ (x : ℕ). sets (sets list 0 (entryWords (map g first))) x (entryWords (map g then))) place
+                  ∙ sets-append list 0 (entryWords (map g first)) (entryWords (map g then))
+                  ∙ ap (sets list 0) (sym (ap entryWords (map-append g first then) ∙ entries-append (map g first) (map g then)))
+                  ∙ at-once (first ++ then) (omega (arith, first-few, first-count, length-keep (λ w. leb (w .wait) second) (s .dated), few-both));
             }
 
-  -- ---- a set clock
+  -- ---- a set clock, whatever it fires then
 
   module _ (second : ℕ) {u₁ : List ℕ} (e₁ : u₁ ≡ over (reclock (read t) (clockAt (read t .clock) second 0)) t) where
     after-set : Next t (reclock (read t) (clockAt (read t .clock) second 0)) u₁
@@ -139,17 +151,22 @@ module _ (t list : List ℕ) (ok : sound t ≡ true) (long : 3 * word t 0 ≤ le
         next-then start (λ z. reclock z (clockAt (z .clock) second 0))
         (chained-reclock (read t) (clockAt (read t .clock) second 0) chained) refl refl e₁
 
-    pub moved-room : Room ByDate u₁ list second 0
-    moved-room = room-for after-set ByDate second 0 list refl (omega (arith, few-due second))
+    few-one : (k : Chain) → length (chainOf k (reclock (read t) (clockAt (read t .clock) second 0))) ≤ length (read t .slots)
+    few-one = fits (reclock (read t) (clockAt (read t .clock) second 0)) (after-set .holds .chained)
 
-    pub moved-is : {m : ℕ} {u₂ list₂ : List ℕ} → Fires ByDate u₁ list second 0 m u₂ list₂ → Leaves t list (clockMoved (read t) second list) m u₂ list₂
-    moved-is {m} {u₂} {list₂} f =
-        let number : m ≡ length (due ByDate second (read t)) =
-        omega (arith, f .count, ap (λ (z : State). length (due ByDate second z)) (next-read after-set)) in
+    pub moved-room : (k : Chain) (limit : ℕ) → Room k u₁ list limit 0
+    moved-room k limit = room-for after-set k limit 0 list refl (omega (arith, few-one k))
+
+    pub moved-is : {k : Chain} {limit m : ℕ} {u₂ list₂ : List ℕ} → Fires k u₁ list limit 0 m u₂ list₂
+        → Leaves t list (movedTo k limit (read t) second list) m u₂ list₂
+    moved-is {k} {limit} {m} {u₂} {list₂} f =
+        let later = reclock (read t) (clockAt (read t .clock) second 0) in
+        let number : m ≡ length (due k limit later) =
+        omega (arith, f .count, ap (λ (z : State). length (due k limit z)) (next-read after-set)) in
         record {
           table = next-fires after-set f .is;
           answer = λ j. number j ∷ [];
           entries = f .entries
-              ∙ ap (λ (z : State). sets list (3 * 0) (entryWords (map (listed (z .slots)) (due ByDate second z)))) (next-read after-set)
-              ∙ at-once (due ByDate second (read t)) (omega (arith, few-due second));
+              ∙ ap (λ (z : State). sets list (3 * 0) (entryWords (map (listed (z .slots)) (due k limit z)))) (next-read after-set)
+              ∙ at-once (due k limit later) (omega (arith, length-keep (λ w. leb (w .wait) limit) (chainOf k later), few-one k));
         }

@@ -16,13 +16,13 @@ use Rattle.calendar.specs.Calendar.{valid, secondsOf, dateOf, instantOf, dateAn
 use Rattle.calendar.proofs.Theorems.{second-answer, not-valid-answer, on-answer, past-answer}
 use Rattle.model.specs.declared.Chain.the-variants.{ByDate}
 use Rattle.model.specs.Lists.{All}
-use Rattle.model.specs.Calls.{setClock}
-use Rattle.model.specs.Directives.{isPast, started, clockMoved, numbers}
+use Rattle.model.specs.Calls.{tick, setClock}
+use Rattle.model.specs.Directives.{isPast, started, clockStep, numbers}
 use Rattle.model.specs.Words.{over, word, read}
 use Rattle.model.specs.Sound.{sound}
 use Rattle.model.specs.Outcome.{outcome}
 use Rattle.model.proofs.SoundHolds.{sound-header}
-use Rattle.firing.proofs.Ticks.{Leaves}
+use Rattle.firing.proofs.Ticks.{Leaves, tickedTo, movedTo}
 use Rattle.timer.proofs.Replies.{rules, done}
 
 module _ (t : List ℕ) where
@@ -69,9 +69,19 @@ is-valid w s e n = ap not (second-answer w s e n .is-valid)
 pub second-is : (w : WallTime) (s : ℕ) {i : Instant} → i ≡ instantOf w → i ≡ Second s → s ≡ secondsOf w
 second-is w s e n = second-answer w s e n .is
 
+-- it fires the dated timers, up to the second given
 pub set-clock-done : (t : List ℕ) (w : WallTime) (list : List ℕ) (s m : ℕ) (u list′ : List ℕ) → All (λ r. r .given ≡ false) (rules t (setClock w list))
-    → s ≡ secondsOf w → Leaves t list (clockMoved (read t) s list) m u list′
+    → s ≡ secondsOf w → Leaves t list (movedTo ByDate s (read t) s list) m u list′
     → record { status = 0; answer = m ∷ []; table = u; list = list′ } ≡ outcome t (setClock w list)
 set-clock-done t w list s m u list′ none e l =
-    let k = subst (λ (d : ℕ). Leaves t list (clockMoved (read t) d list) m u list′) e l in
+    let k = subst (λ (d : ℕ). Leaves t list (movedTo ByDate d (read t) d list) m u list′) e l in
     done t (setClock w list) (m ∷ []) u list′ none (k .answer) (k .table) (k .entries)
+
+-- ---- tick: it fires at no ticks left, and up to the second that the clock has come to
+
+pub tick-done : (t list : List ℕ) (second m : ℕ) (u list′ : List ℕ) → All (λ r. r .given ≡ false) (rules t (tick list))
+    → second ≡ clockStep (read t .clock) .second → Leaves t list (tickedTo 0 second (read t) list) m u list′
+    → record { status = 0; answer = m ∷ []; table = u; list = list′ } ≡ outcome t (tick list)
+tick-done t list second m u list′ none e l =
+    let k = subst (λ (d : ℕ). Leaves t list (tickedTo 0 d (read t) list) m u list′) e l in
+    done t (tick list) (m ∷ []) u list′ none (k .answer) (k .table) (k .entries)

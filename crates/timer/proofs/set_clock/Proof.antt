@@ -95,7 +95,7 @@ fire-requires c κs =
     let list = a .fired .now in
     let ok = sound-now t _ (b .before .is-sound .ensures) (b .if1 .left) in
     let long = long-enough t list _ (room .before .list-words .ensures) (room .if2 .left) in
-    moved-room t list ok long _ (moved .set-clock .ensures)
+    moved-room t list ok long _ (moved .set-clock .ensures) _ _
 
 same-length-4 : tie.Need-same-length-4
 same-length-4 c = search needs

@@ -5,9 +5,10 @@ use native.Mathlib.Omega.{arith}
 use Rattle.model.specs.declared.Status.the-variants.{NotSound, ListTooShort}
 use Rattle.model.specs.Calls.{tick}
 use Rattle.model.proofs.SoundHolds.{sound-header}
-use Rattle.firing.proofs.Ticks.{nearer-room, first-holds, first-into, clock-room, ticked-is}
-use Rattle.timer.proofs.Replies.{refuses, done, unsound, sound-rule, sound-now}
+use Rattle.firing.proofs.Ticks.{nearer-room, first-holds, first-into, clock-long, clock-room, second-is, ticked-is}
+use Rattle.timer.proofs.Replies.{refuses, unsound, sound-rule, sound-now}
 use Rattle.timer.proofs.Lists.{too-short, long-enough, not-short}
+use Rattle.timer.proofs.Clocks.{tick-done}
 use Rattle.timer.proofs.tick.Statement.{statement}
 use Rattle.timer.proofs.tick.Tie as tie
 
@@ -71,7 +72,7 @@ fire-requires c κs =
     let list = a .fired .now in
     let ok = sound-now t _ (b .before .is-sound .ensures) (b .if1 .left) in
     let long = long-enough t list _ (room .before .list-words .ensures) (room .if2 .left) in
-    nearer-room t list ok long (near .come-nearer .ensures)
+    nearer-room t list ok long (near .come-nearer .ensures) _
 
 step-clock-requires : tie.Need-step-clock-requires
 step-clock-requires c κs =
@@ -103,7 +104,7 @@ slice-read-second c =
     let e₁ = near .come-nearer .ensures in
     let f₁ = fired .fire .ensures in
     let e₃ = clock .step-clock .ensures in
-    omega (arith, clock-room t list ok long e₁ f₁ e₃ .holds .long)
+    omega (arith, clock-long t list ok long e₁ f₁ e₃)
 
 fire-requires-2 : tie.Need-fire-requires-2
 fire-requires-2 c κs =
@@ -120,7 +121,7 @@ fire-requires-2 c κs =
     let e₁ = near .come-nearer .ensures in
     let f₁ = fired .fire .ensures in
     let e₃ = clock .step-clock .ensures in
-    clock-room t list ok long e₁ f₁ e₃
+    clock-room t list ok long e₁ f₁ e₃ _
 
 same-length-3 : tie.Need-same-length-3
 same-length-3 c = search needs
@@ -145,7 +146,7 @@ returns-3 c =
     let e₃ = clock .step-clock .ensures in
     let rule = sound-rule t _ (b .before .is-sound .ensures) (b .if1 .left) in
     let l = ticked-is t list ok long e₁ f₁ e₃ (c .before .before .before .before .fire2 .ensures) in
-    done t (tick list) _ _ _ (rule, (not-short t list long, tt)) (l .answer) (l .table) (l .entries)
+    tick-done t list _ _ _ _ (rule, (not-short t list long, tt)) (second-is t list ok long e₁ f₁ e₃) l
 
 pub tick-spec : {M : Type 1} → statement M
 tick-spec =
