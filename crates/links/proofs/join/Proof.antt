@@ -1,5 +1,10 @@
 -- `links::join` meets its contract, by its two cases. Assumes nothing.
 use borrow.Author.Needs.{needs}
+use mathlib.Core.Path.{sym, ap, _∙_}
+use mathlib.Core.List.{List}
+use Prim.Native.Nat.{ℕ}
+use lib.ListN.{set}
+use Rattle.links.specs.Surgery.{fieldWord}
 use Rattle.links.proofs.Surgery.{joined-none, joined-some}
 use Rattle.links.proofs.join.Statement.{statement}
 use Rattle.links.proofs.join.Tie as tie
@@ -20,7 +25,9 @@ returns-2 : tie.Need-returns-2
 returns-2 c =
     let some = c .before .before .before .before .before .before .before .before in
     let a = some .before .before .args in
-    cc (joined-some (a .t .now) (a .n) (a .q) (a .v) (some .if1 .left))
+    c .before .before .put2 .ensures
+    ∙ ap (λ (l : List ℕ). set l (fieldWord (a .n) 3) (a .v)) (c .before .before .before .before .before .before .put .ensures)
+    ∙ sym (joined-some (a .t .now) (a .n) (a .q) (a .v) (some .if1 .left))
 
 pub join-spec : {M : Type 1} → statement M
 join-spec = tie.close (tie.spec returns put-requires put-requires-2 same-length returns-2)

@@ -104,7 +104,7 @@ returns-5 c =
     let to = c .before .before .before .before .before .to-seconds .ensures in
     let got = c .before .before .before .date .given .1 in
     refuses t (fireWhen (a .id) (a .when) (a .routine) (a .user-data)) InvalidClock 3 (rule, (clock-running t set, (ne-eqb (a .routine) 0 used, tt)))
-    (past-date t (a .when) _ to got (c .if4 .taken)) refl
+    (past-date t (a .when) _ to got (omega (arith, c .if4 .taken))) refl
 
 named-requires : tie.Need-named-requires
 named-requires c κs =
@@ -128,7 +128,7 @@ returns-6 c =
     let used = c .before .before .before .before .before .before .before .before .before .if3 .left in
     let to = c .before .before .before .before .before .before .before .before .to-seconds .ensures in
     let got = c .before .before .before .before .before .before .date .given .1 in
-    let later = later-date t (a .when) _ to got (c .before .before .before .if4 .left) in
+    let later = later-date t (a .when) _ to got (omega (arith, c .before .before .before .if4 .left)) in
     let at = c .before .named .ensures in
     refuses t (fireWhen (a .id) (a .when) (a .routine) (a .user-data)) InvalidId 4
     (rule, (clock-running t set, (ne-eqb (a .routine) 0 used, (later, tt))))
@@ -159,7 +159,7 @@ returns-7 c =
     let used = c .before .before .before .before .before .before .before .before .before .before .before .before .before .if3 .left in
     let to = c .before .before .before .before .before .before .before .before .before .before .before .before .to-seconds .ensures in
     let got = c .before .before .before .before .before .before .before .before .before .before .date .given .1 in
-    let later = later-date t (a .when) _ to got (c .before .before .before .before .before .before .before .if4 .left) in
+    let later = later-date t (a .when) _ to got (omega (arith, c .before .before .before .before .before .before .before .if4 .left)) in
     let some = d .if5 .left in
     let at = d .before .named .ensures in
     let i = c .before .before .before .before .before .named .result in

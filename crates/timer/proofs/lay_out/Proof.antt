@@ -35,7 +35,7 @@ returns-2 c =
     let a = c .before .before .before .before .args in
     let t = a .table .now in
     refuses t (layOut (a .slots) (a .rate)) InvalidSize 1 (inside-limits (c .before .before .within-limits .ensures) (c .before .if1 .left), tt)
-    (lt-ltb (length t) (10 + 8 * a .slots) (c .if2 .taken)) refl
+    (lt-ltb (length t) (10 + 8 * a .slots) (omega (arith, c .if2 .taken))) refl
 
 clear-requires : tie.Need-clear-requires
 clear-requires c κs = search needs
