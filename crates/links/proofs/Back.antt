@@ -1,7 +1,6 @@
 -- Back along the interval chain: what the words of a slot say of the slot before it. The chain is split at the slot; the slot before is the
 -- last one of the front, and the slot itself the last one of the front with it. Assumes nothing.
 use mathlib.Core.Path.{_≡_, refl, sym, ap, _∙_, subst}
-use mathlib.Core.Logic.{_≢_}
 use Prim.Native.Nat.{ℕ, _+_, _*_, _≤_, _<_}
 use native.Mathlib.Omega.{arith}
 use mathlib.Core.List.{List, [], _∷_, _++_, append-assoc}
@@ -56,7 +55,7 @@ module _ (t : List ℕ) (h : Holds t (read t)) where
         ));
       }
 
-pub before : (t : List ℕ) (i : ℕ) → Holds t (read t) × (0 < i → 0 < timesIn (read t .ticking) i) → i ≢ 0 → Before t i
-before t i (h, m) some =
-    let p = split i (read t .ticking) (omega (arith, m (omega (arith, some)), once (read t) (h .chained) ByTicks i)) in
+pub before : (t : List ℕ) (i : ℕ) → Holds t (read t) × (0 < timesIn (read t .ticking) i) → Before t i
+before t i (h, m) =
+    let p = split i (read t .ticking) (omega (arith, m, once (read t) (h .chained) ByTicks i)) in
     subst (Before t) (p .slot) (before-mid t h (p .front) (p .entry) (p .back) (p .whole))

@@ -1,6 +1,6 @@
 -- `links::ticks_to` meets its contract: the slot before is nearer to the chain's start, and its ticks left and the slot's wait are the
 -- slot's ticks left. The measure is the slot's position in the chain. Assumes nothing.
-use mathlib.Core.Path.{subst}
+use mathlib.Core.Path.{sym, _∙_, subst}
 use Prim.Native.Nat.{ℕ, _+_, _*_, _<_}
 use native.Mathlib.Omega.{arith}
 use borrow.Fn.Kinds.{In}
@@ -25,16 +25,6 @@ abbrev ticks-to-below : ℕ → In 1 ticks-to-kinds.ps
 ticks-to-below t =
     and 1 ticks-to-kinds.ps (falls 1 ticks-to-kinds.ps _<_ μ-ticks-to t) ticks-to.Pre
 
-ticks-to-returns : (t : ℕ) → ticks-to-lts.Need-returns (
-  get-reads.Asked,
-  get-reads.Learnt,
-  ticks-to-below t,
-  ticks-to.Post,
-) (ticks-to-at t) ticks-to.Post
-ticks-to-returns t c =
-    let s = c .before .before in
-    none-before (s .args .t .now) (s .pre .1 .0) (s .args .i) (c .if1 .taken)
-
 ticks-to-get-requires : (t : ℕ) → ticks-to-lts.Need-get-requires (
   get-reads.Asked,
   get-reads.Learnt,
@@ -42,8 +32,8 @@ ticks-to-get-requires : (t : ℕ) → ticks-to-lts.Need-get-requires (
   ticks-to.Post,
 ) (ticks-to-at t) ticks-to.Post
 ticks-to-get-requires t c κs =
-    let s = c .before .before in
-    (omega arith, before (s .args .t .now) (s .args .i) (s .pre .1) (c .if1 .left) .inside)
+    let s = c .before in
+    (omega arith, before (s .args .t .now) (s .args .i) (s .pre .1) .inside)
 
 ticks-to-get-requires-2 : (t : ℕ) → ticks-to-lts.Need-get-requires-2 (
   get-reads.Asked,
@@ -52,8 +42,20 @@ ticks-to-get-requires-2 : (t : ℕ) → ticks-to-lts.Need-get-requires-2 (
   ticks-to.Post,
 ) (ticks-to-at t) ticks-to.Post
 ticks-to-get-requires-2 t c κs =
-    let s = c .before .before .before in
-    (omega arith, before (s .args .t .now) (s .args .i) (s .pre .1) (c .before .if1 .left) .inside)
+    let s = c .before .before in
+    (omega arith, before (s .args .t .now) (s .args .i) (s .pre .1) .inside)
+
+ticks-to-returns : (t : ℕ) → ticks-to-lts.Need-returns (
+  get-reads.Asked,
+  get-reads.Learnt,
+  ticks-to-below t,
+  ticks-to.Post,
+) (ticks-to-at t) ticks-to.Post
+ticks-to-returns t c =
+    let s = c .before .before .before .before in
+    let b = before (s .args .t .now) (s .args .i) (s .pre .1) in
+    let none = none-before (s .args .t .now) (s .pre .1 .0) _ (sym (c .before .get2 .ensures) ∙ c .if1 .taken) in
+    omega (arith, b .sum, none, c .before .before .get .ensures)
 
 ticks-to-ticks-to-requires : (t : ℕ) → ticks-to-lts.Need-ticks-to-requires (
   get-reads.Asked,
@@ -62,12 +64,11 @@ ticks-to-ticks-to-requires : (t : ℕ) → ticks-to-lts.Need-ticks-to-requires (
   ticks-to.Post,
 ) (ticks-to-at t) ticks-to.Post
 ticks-to-ticks-to-requires t c κs =
-    let d = c .before .before in
-    let s = d .before .before in
-    let b = before (s .args .t .now) (s .args .i) (s .pre .1) (d .if1 .left) in
-    rw (c .before .get .ensures) (
+    let s = c .before .before .before .before in
+    let b = before (s .args .t .now) (s .args .i) (s .pre .1) in
+    rw (c .before .get2 .ensures) (
       subst (λ (j : ℕ). position (field (s .args .t .now) 7 (s .args .i)) (read (s .args .t .now) .ticking) < j) (s .pre .0) (b .less),
-      (s .pre .1 .0, b .there),
+      (s .pre .1 .0, b .there (omega (arith, c .before .get2 .ensures, c .if1 .left))),
     )
 
 ticks-to-add-result : (t : ℕ) → ticks-to-lts.Need-add-result (
@@ -77,11 +78,11 @@ ticks-to-add-result : (t : ℕ) → ticks-to-lts.Need-add-result (
   ticks-to.Post,
 ) (ticks-to-at t) ticks-to.Post
 ticks-to-add-result t c =
-    let d = c .before .before .before in
-    let s = d .before .before in
-    let b = before (s .args .t .now) (s .args .i) (s .pre .1) (d .if1 .left) in
-    let e = rw (c .before .before .get .ensures) at (c .ticks-to .ensures) in
-    omega (arith, b .sum, b .fits, e, c .before .get2 .ensures, d .before .shared-slice-known .given (2 + 8 * (s .args .i) + 2) .fits)
+    let reads = c .before .before in
+    let s = reads .before .before .before in
+    let b = before (s .args .t .now) (s .args .i) (s .pre .1) in
+    let e = rw (reads .get2 .ensures) at (c .ticks-to .ensures) in
+    omega (arith, b .sum, b .fits, e, reads .before .get .ensures, reads .before .before .shared-slice-known .given (2 + 8 * (s .args .i) + 2) .fits)
 
 ticks-to-returns-2 : (t : ℕ) → ticks-to-lts.Need-returns-2 (
   get-reads.Asked,
@@ -90,11 +91,11 @@ ticks-to-returns-2 : (t : ℕ) → ticks-to-lts.Need-returns-2 (
   ticks-to.Post,
 ) (ticks-to-at t) ticks-to.Post
 ticks-to-returns-2 t c =
-    let d = c .before .before .before in
-    let s = d .before .before in
-    let b = before (s .args .t .now) (s .args .i) (s .pre .1) (d .if1 .left) in
-    let e = rw (c .before .before .get .ensures) at (c .ticks-to .ensures) in
-    omega (arith, b .sum, e, c .before .get2 .ensures)
+    let reads = c .before .before in
+    let s = reads .before .before .before in
+    let b = before (s .args .t .now) (s .args .i) (s .pre .1) in
+    let e = rw (reads .get2 .ensures) at (c .ticks-to .ensures) in
+    omega (arith, b .sum, e, reads .before .get .ensures)
 
 pub +ticks-to-spec : {M : Type 1} → statement M
 +ticks-to-spec = close μ-ticks-to λ t. ticks-to-lts.spec (
@@ -105,9 +106,9 @@ pub +ticks-to-spec : {M : Type 1} → statement M
 )
     (ticks-to-at t)
     ticks-to.Post
-    (ticks-to-returns t)
     (ticks-to-get-requires t)
     (ticks-to-get-requires-2 t)
+    (ticks-to-returns t)
     (ticks-to-ticks-to-requires t)
     (ticks-to-add-result t)
     (ticks-to-returns-2 t)

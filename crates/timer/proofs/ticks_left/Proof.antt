@@ -71,7 +71,7 @@ ticks-to-requires c κs =
     let ok = sound-now t _ (b .before .is-sound .ensures) (b .if1 .left) in
     let some = d .if2 .left in
     let at = d .before .named .ensures in
-    (sound-holds t ok, λ p. ticks-met t ok (a .id) _ at some (sym (c .before .get .ensures) ∙ c .if3 .left))
+    (sound-holds t ok, ticks-met t ok (a .id) _ at some (sym (c .before .get .ensures) ∙ c .if3 .left))
 
 returns-4 : tie.Need-returns-4
 returns-4 c =
