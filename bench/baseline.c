@@ -59,6 +59,8 @@ static inline bool header_sound(const uint32_t *table, size_t words)
         return false;
     if (table[ZEROS] | table[ZEROS + 1] | table[ZEROS + 2])
         return false;
+    if (table[FIRST_TICKING] != 0 && table[FIRST_TICKING] == table[FIRST_DATED])
+        return false;
     if (table[CLOCK_SET] == 0)
         return (table[SECONDS] | table[CLOCK_TICKS] | table[FIRST_DATED]) == 0;
     return table[CLOCK_SET] == 1;
@@ -90,19 +92,17 @@ static inline bool step_ticking(const uint32_t *table, struct walk *walk)
     return true;
 }
 
-/* One step along the dated chain. */
+/* One step along the dated chain. Nor is the kind looked at here: chains with two first slots share none, so no slot of
+ * kind 4 comes, and of the others that do not wait for a date none has a wait that is not 0. Dates never fall, so the last
+ * one alone is held against the last second, at the end. */
 static inline bool step_dated(const uint32_t *table, struct walk *walk)
 {
     if (walk->at - 1 >= table[SLOTS])
         return false;
     const uint32_t *s = slot_of(table, walk->at);
-    if (s[KIND] != DATED)
-        return false;
     if (s[PREVIOUS] != walk->previous)
         return false;
     if (s[WAIT] < walk->reached)
-        return false;
-    if (s[WAIT] > LAST_SECOND)
         return false;
     walk->reached = s[WAIT];
     walk->previous = walk->at;
@@ -143,7 +143,9 @@ static bool sound(const uint32_t *table, size_t words)
     for (const uint32_t *s = table + HEADER_WORDS; s < end; s += SLOT_WORDS)
         if (!slot_sound(table, s, &ticking, &dated))
             return false;
-    return (ticking.at | dated.at) == 0;
+    if (ticking.at | dated.at)
+        return false;
+    return dated.previous == 0 || dated.reached <= LAST_SECOND;
 }
 
 /* The slot of the timer that the id names; 0 if it names none. */

@@ -273,15 +273,15 @@ pub fn store(t: &mut [u32], i: u32, kind: u32, name: u32)
     fill(t, i, kind, 0, 0, 0);
 }
 
-// The ticks left of a slot of the interval chain: its wait and those of every slot before it.
+// The ticks left of a slot of the interval chain: its wait and those of every slot before it. Reborrowed as in `table::is_sound`.
 pub fn ticks_to(t: &[u32], i: u32) -> u32
     requires { ⌜ Holds (now t) (read (now t)) × (0 < timesIn (read (now t) .ticking) i) ⌝ }
     ensures { λ r. ⌜ r ≡ waitAt i (read (now (t .entry)) .ticking) ⌝ }
 {
-    let wait = get(t, i, WAIT);
-    let p = get(t, i, PREVIOUS);
+    let wait = get(&*t, i, WAIT);
+    let p = get(&*t, i, PREVIOUS);
     if p == 0 {
         return wait;
     }
-    ticks_to(t, p) + wait
+    ticks_to(&*t, p) + wait
 }

@@ -118,14 +118,15 @@ pub fn put(t: &mut [u32], i: u32, f: usize, v: u32)
     t[SLOT_ZERO + SLOT * (i as usize) + f] = v;
 }
 
-// Whether the table is sound.
+// Whether the table is sound. One pass over the slots; each waiting one goes one step along its chain. The slice is reborrowed where it is
+// passed on, so that the compiler keeps it in registers.
 pub fn is_sound(t: &[u32]) -> bool
     ensures { λ r. ⌜ r ≡ sound (now (t .entry)) ⌝ }
 {
-    if !checks::header_sound(t) {
+    if !checks::header_sound(&*t) {
         return false;
     }
-    if !checks::heads_tested(t) {
+    if !checks::heads_tested(&*t) {
         return false;
     }
     let n = t[SLOT_COUNT];
@@ -137,25 +138,25 @@ pub fn is_sound(t: &[u32]) -> bool
     let mut date = t[SECONDS] + 1;
     let mut i = 1;
     while i <= n {
-        if !checks::slot_tested(t, i) {
+        if !checks::slot_tested(&*t, i) {
             return false;
         }
-        let kind = get(t, i, KIND);
+        let kind = get(&*t, i, KIND);
         i += 1;
         if kind == WAITING_TICKS {
-            if !checks::tick_tested(t, n, tick_at, tick_before, ticks) {
+            if !checks::tick_tested(&*t, n, tick_at, tick_before, ticks) {
                 return false;
             }
-            ticks += checks::wide(get(t, tick_at, WAIT));
+            ticks += checks::wide(get(&*t, tick_at, WAIT));
             tick_before = tick_at;
-            tick_at = get(t, tick_at, NEXT);
+            tick_at = get(&*t, tick_at, NEXT);
         } else if kind == WAITING_DATE {
-            if !checks::date_tested(t, n, date_at, date_before, date) {
+            if !checks::date_tested(&*t, n, date_at, date_before, date) {
                 return false;
             }
-            date = get(t, date_at, WAIT);
+            date = get(&*t, date_at, WAIT);
             date_before = date_at;
-            date_at = get(t, date_at, NEXT);
+            date_at = get(&*t, date_at, NEXT);
         }
     }
     if tick_at != 0 {
