@@ -1,7 +1,7 @@
 /* Heathcinder: a timer manager over a table of 32-bit words that the caller lends.
  *
  * The library keeps nothing of its own: all there is to know stands in the table. Every call but hc_lay_out
- * begins by checking that the table is sound, and a refused call changes nothing.
+ * begins by checking that the table is sound, and a refused call changes no word of table or list.
  *
  * The table: a header of 10 words, then 8 words for each slot. Slot indexes run from 1; link 0 means none.
  *
@@ -19,7 +19,7 @@
  *          1  never started                             4  waiting for ticks
  *          2  idle, last started by interval            5  waiting for a date
  *
- * Words past 10 + 8N are neither read nor changed.
+ * A timer's id is 0x12010000 plus its slot index. Words past 10 + 8N are neither read nor changed.
  *
  * What the caller must see to:
  *   - No pointer is null, and each is aligned for its type.
@@ -46,7 +46,7 @@ extern "C" {
 #define HC_INVALID_ADDRESS 9u  /* fire after, fire when: routine 0 */
 #define HC_INVALID_NUMBER 10u  /* fire after: ticks 0; lay out: N or T outside its limits */
 #define HC_NOT_DEFINED 11u     /* fire when, get clock: clock not set; reset: not last started by interval */
-#define HC_INVALID_CLOCK 20u   /* set clock, fire when: no such date; fire when: not after the present second */
+#define HC_INVALID_CLOCK 20u   /* set clock, fire when: date not valid; fire when: not after the present second */
 #define HC_NOT_SOUND 100u      /* any call but lay out: the table is not sound */
 #define HC_LIST_TOO_SHORT 101u /* tick, set clock: fewer than 3N words of list */
 
@@ -88,7 +88,7 @@ uint32_t hc_fire_after(uint32_t *table, size_t words, uint32_t id, uint32_t tick
                        uint32_t data);
 
 /* Starts the timer, anew if it waits: it fires when the clock reaches that date, after those of the same date.
- * 100; 11 clock not set; 9 routine 0; 20 no such date, or not after the present second; 4 no such timer. */
+ * 100; 11 clock not set; 9 routine 0; 20 date not valid, or not after the present second; 4 no such timer. */
 uint32_t hc_fire_when(uint32_t *table, size_t words, uint32_t id, const struct hc_wall_time *when,
                       uint32_t routine, uint32_t data);
 
@@ -100,13 +100,16 @@ uint32_t hc_reset(uint32_t *table, size_t words, uint32_t id);
  * 100; 4 no such timer. */
 uint32_t hc_ticks_left(const uint32_t *table, size_t words, uint32_t id, uint32_t *ticks);
 
-/* One tick passes. Writes id, routine and user data of each timer that fires to the list, in firing order, and
- * answers how many; list words after those stay.
+/* One tick passes: interval timers come nearer and those due fire; then the clock, if set, goes on, up to its last
+ * tick in 2099, and dated timers that it reaches fire. Writes id, routine and user data of each timer that fires to
+ * the list, interval timers first, then by date, the earlier start first among equals, and answers how many; list
+ * words after those stay.
  * 100; 101 fewer than HC_LIST_WORDS(N) words of list. */
 uint32_t hc_tick(uint32_t *table, size_t words, uint32_t *fired, size_t fired_words, uint32_t *count);
 
-/* Sets the clock. Dated timers at or before the new second fire now, listed as by hc_tick.
- * 100; 101 fewer than HC_LIST_WORDS(N) words of list; 20 no such date. */
+/* Sets the clock to the second given, 0 ticks into it. Dated timers at or before it fire now, listed as by hc_tick.
+ * Interval timers do not change, and a clock set back moves no date.
+ * 100; 101 fewer than HC_LIST_WORDS(N) words of list; 20 date not valid. */
 uint32_t hc_set_clock(uint32_t *table, size_t words, const struct hc_wall_time *now, uint32_t *fired,
                       size_t fired_words, uint32_t *count);
 

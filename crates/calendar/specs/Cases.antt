@@ -5,7 +5,7 @@ use Rattle.calendar.specs.declared.WallTime.{WallTime}
 use Rattle.calendar.specs.declared.Instant.{Instant}
 use Rattle.calendar.specs.declared.Instant.the-variants.{Second, NotValid}
 
--- a wall time, its ticks left out
+-- a wall time with ticks 0
 abbrev pub date : ℕ → ℕ → ℕ → ℕ → ℕ → ℕ → WallTime
 date y mo d h mi s = record { year = y; month = mo; day = d; hour = h; minute = mi; second = s; ticks = 0 }
 

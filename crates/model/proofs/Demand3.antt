@@ -17,7 +17,7 @@ use Rattle.model.specs.Directives.{refusals, laidOut, effect}
 use Rattle.model.specs.Words.{first, over, word, field, along, links, read}
 use Rattle.model.specs.Sound.{sound}
 use Rattle.model.specs.Outcome.{Outcome, statusOn, refused, written, outcome}
-use Rattle.model.specs.History.{Event, laidOutFor, changes, oneTick, clockSetTo, nothing, eventOf, eventsFrom, moves, isTick, starts, waits, fires, inChain, dueAt, entry}
+use Rattle.model.specs.History.{Event, laidOutFor, changes, oneTick, clockSetTo, nothing, eventOf, eventsFrom, perSecond, clockAfter, moves, isTick, starts, waits, fires, inChain, dueAt, entry}
 use Rattle.model.specs.Demand.{after, acceptedIn, shown, Standing, Answers, eventsAfter, Demand3}
 use Rattle.model.proofs.ListLaws.{cases, clash}
 use Rattle.model.proofs.Order.{order, order-in-order}
@@ -133,6 +133,8 @@ module _ (t : List ℕ) (es h : List Event) (g : Good t es h) (c : Call) where
         by-next = λ k. (history k es, order-in-order dueAt (keep (inChain k) (keep waits (starts es))), each k);
         by-previous = back;
         once = once-both (read t) (hold .chained);
+        rate = ap perSecond (g .agrees .back) ∙ g .agrees .per;
+        clock = ap (clockAfter 0) (g .agrees .back) ∙ g .agrees .clock;
       }
     where
       each : (k : Chain) → map (shown (read t .slots)) (links k t) ≡ chainFrom k es
@@ -190,7 +192,7 @@ good-after w n t e xs =
     subst (λ (cs : List Call). Good (after t₀ xs) (eventsFrom [] cs) (reverse (eventsFrom [] cs)))
     (ap (λ (b : Bool). cond b (layOut n t ∷ acceptedIn t₀ xs) (acceptedIn t₀ xs)) (sym (eq-eqb (outcome w (layOut n t) .status) 0 e))) g
 
-pub demand3 : (w : List ℕ) (n t : ℕ) → outcome w (layOut n t) .status ≡ 0 → (cs : List Call) → Demand3 w n t cs
+pub demand3 : Demand3
 demand3 w n t e cs =
     let now : List Call → List ℕ = λ xs. after w (layOut n t ∷ xs) in
     let es : List Call → List Event = λ xs. eventsAfter w (layOut n t ∷ xs) in

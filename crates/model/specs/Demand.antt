@@ -1,7 +1,8 @@
--- Demand 3: one statement about every list of calls from every accepted lay out. Assumes nothing: these are definitions.
+-- Demand 3: a single claim about every list of calls from every accepted lay out, the last definition here. Assumes nothing: these are definitions.
 use mathlib.Core.Path.{_≡_}
-use Prim.Native.Nat.{ℕ, _+_, _≤_}
+use Prim.Native.Nat.{ℕ, _+_, _*_, _≤_}
 use mathlib.Core.Bool.{true, false, cond}
+use mathlib.Core.Option.{none, some}
 use mathlib.Core.List.{List, [], _∷_, _++_, map, reverse}
 use lib.ListN.{length}
 use lib.Dec.{eqb}
@@ -13,7 +14,7 @@ use Rattle.model.specs.Directives.{effect}
 use Rattle.model.specs.Words.{word, field, first, along, links, read}
 use Rattle.model.specs.Sound.{sound}
 use Rattle.model.specs.Outcome.{outcome, written, refused}
-use Rattle.model.specs.History.{Event, Placed, Waiting, eventOf, eventsFrom, moves, starts, waits, fires, inChain, dueAt, waiting, entry}
+use Rattle.model.specs.History.{Event, Placed, Waiting, eventOf, eventsFrom, perSecond, clockAfter, moves, starts, waits, fires, inChain, dueAt, waiting, entry}
 
 -- Each call gets the table that the last one left.
 abbrev pub after : List ℕ → List Call → List ℕ
@@ -40,6 +41,9 @@ pub record Standing (t : List ℕ) (es : List Event) : Type 0 where
   pub by-previous : (k : Chain) → along (field t 7) (word t 0) (first (reverse (links k t))) ≡ map (λ w. w .slot) (reverse (links k t))
   -- Each waiting timer stands there once.
   pub once : (i : ℕ) → count (λ w. eqb (w .slot) i) (links ByTicks t) + count (λ w. eqb (w .slot) i) (links ByDate t) ≤ 1
+  -- The table's T and its clock, counted in ticks, are those of the events; it is unset where theirs is.
+  pub rate : perSecond (reverse es) ≡ word t 1
+  pub clock : clockAfter 0 (reverse es) ≡ cond (eqb (word t 2) 1) (some (word t 3 * word t 1 + word t 4)) none
 
 -- What the accepted call c, which is the event e, has to list on the table t after these events: the timers that fire in it, those due in this
 -- call and not ended before, interval ones first, each kind in firing order. A tick and a set clock answer their number, any other call lists
@@ -63,8 +67,12 @@ pub record Answers (t : List ℕ) (es : List Event) (c : Call) (e : Event) : Typ
 abbrev pub eventsAfter : List ℕ → List Call → List Event
 eventsAfter w cs = eventsFrom [] (acceptedIn w cs)
 
--- The demand for the whole list cs after a lay out for n and t of the slice w: after every prefix, and in every call.
-pub record Demand3 (w : List ℕ) (n t : ℕ) (cs : List Call) : Type 0 where
+-- What is demanded of the whole list cs after a lay out for n and t of the slice w: after every prefix, and in every call.
+pub record Demanded (w : List ℕ) (n t : ℕ) (cs : List Call) : Type 0 where
   pub standing : (xs ys : List Call) → xs ++ ys ≡ cs → Standing (after w (layOut n t ∷ xs)) (eventsAfter w (layOut n t ∷ xs))
   pub answers : (xs ys : List Call) (c : Call) → xs ++ (c ∷ ys) ≡ cs →
       Answers (after w (layOut n t ∷ xs)) (eventsAfter w (layOut n t ∷ xs)) c (eventOf (reverse (eventsAfter w (layOut n t ∷ xs))) c)
+
+-- The single claim: every slice, every accepted lay out on it, every list of calls.
+abbrev pub Demand3 : Type 0
+Demand3 = (w : List ℕ) (n t : ℕ) → outcome w (layOut n t) .status ≡ 0 → (cs : List Call) → Demanded w n t cs

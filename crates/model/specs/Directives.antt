@@ -1,4 +1,4 @@
--- Document 01, "What each call does" and "Status numbers", in its order. Assumes nothing: these are definitions.
+-- Document 01, "Status numbers" and "What each call does", the calls in its order. Assumes nothing: these are definitions.
 use Prim.Native.Nat.{ℕ, suc, _+_, _-_, _*_}
 use mathlib.Core.Bool.{Bool, true, false, cond, not, _&&_}
 use mathlib.Core.List.{List, [], _∷_, _++_, map}
@@ -14,20 +14,22 @@ use Rattle.model.specs.State.{Slot, Link, Clock, State, chainOf, rechain
 
 -- ---- when a call is refused, in the order of the rules
 
+-- the lowest free slot; the lowest slot with that name, which is not 0: a slot is 0 where there is none
 abbrev pub lowestFree : State → ℕ
 lowestFree s = lowest (λ x. eqb (x .kind) 0) 1 (s .slots)
 
 abbrev pub lowestNamed : State → ℕ → ℕ
 lowestNamed s name = lowest (λ x. eqb (x .name) name) 1 (s .slots)
 
--- the list is shorter than 3N words; the date is not valid or not after the present second
+-- the list is shorter than 3N words; the date is not valid, or not after the present second
 abbrev pub isShort : State → List ℕ → Bool
 isShort s list = ltb (length list) (3 * length (s .slots))
 
-abbrev pub isPast : State → WallTime → Bool
-isPast s w = not (valid w && ltb (s .clock .second) (secondsOf w))
+abbrev pub notAhead : State → WallTime → Bool
+notAhead s w = not (valid w && ltb (s .clock .second) (secondsOf w))
 
--- `unsound` says that the table is not sound
+-- The table of status numbers, read by call: 100, 101, then fire after 10, 9, 4; fire when 11, 9, 20, 4; create 3, 5; reset 4, 11; lay out 10, 8.
+-- `unsound` says that the table is not sound.
 abbrev pub refusals : Bool → State → Call → List Refusal
 refusals unsound s (layOut n t) =
     when InvalidNumber (not (allOf (leb 1 n ∷ leb n 255 ∷ leb 1 t ∷ leb t 1000 ∷ []))) ∷ when InvalidSize (ltb (s .room) (10 + 8 * n)) ∷ []
@@ -39,7 +41,7 @@ refusals unsound s (fireAfter id n r u) =
     when NotSound unsound ∷ when InvalidNumber (eqb n 0) ∷ when InvalidAddress (eqb r 0) ∷ when InvalidId (not (names s id)) ∷ []
 refusals unsound s (fireWhen id w r u) =
     when NotSound unsound ∷ when NotDefined (not (s .clock .isSet)) ∷ when InvalidAddress (eqb r 0)
-    ∷ when InvalidClock (isPast s w) ∷ when InvalidId (not (names s id)) ∷ []
+    ∷ when InvalidClock (notAhead s w) ∷ when InvalidId (not (names s id)) ∷ []
 refusals unsound s (reset id) =
     when NotSound unsound ∷ when InvalidId (not (names s id))
     ∷ when NotDefined (not (lastByTicks (slotAt (s .slots) (indexOf id) .kind))) ∷ []
@@ -71,18 +73,21 @@ stopped s i x =
     let slots = putAt (s .slots) i x in
     rechain ByTicks (rechain ByDate s slots (without i (s .dated))) slots (without i (s .ticking))
 
--- Cancel: a waiting timer becomes idle of its own kind. One that isn't waiting stays as it is.
+-- Cancel: a waiting timer becomes idle of its own kind. One that isn't waiting stays as it is. (Its follower takes over its wait since the other
+-- links keep their ticks left, and a wait is the difference of two: `Words`.)
 abbrev pub idled : Slot → Slot
 idled x = record { kind = idleOf (x .kind); name = x .name; interval = x .interval; routine = x .routine; userData = x .userData }
 
--- Fire after, fire when: cancelled if waiting, then waits. It goes behind every timer due at the same tick, or date.
+-- It goes behind every timer due at the same tick, or date.
 abbrev pub queued : Chain → State → ℕ → ℕ → State
 queued k s i wait = rechain k s (s .slots) (place (λ w. w .wait) (record { slot = i; wait = wait }) (chainOf k s))
 
+-- the slot of a timer that was started in chain k
 abbrev pub waitingAs : Chain → Slot → ℕ → ℕ → ℕ → Slot
 waitingAs k x interval routine userData =
     record { kind = waitingKind k; name = x .name; interval = interval; routine = routine; userData = userData }
 
+-- Fire after, fire when: cancelled if waiting, then waits.
 abbrev pub started : Chain → State → ℕ → ℕ → ℕ → ℕ → ℕ → State
 started k s i wait interval routine userData =
     queued k (stopped s i (waitingAs k (slotAt (s .slots) i) interval routine userData)) i wait
@@ -106,6 +111,7 @@ closer w = record { slot = w .slot; wait = w .wait - 1 }
 abbrev pub nearer : State → State
 nearer s = rechain ByTicks s (s .slots) (map closer (s .ticking))
 
+-- the clock set to a second, so many ticks into it
 abbrev pub clockAt : Clock → ℕ → ℕ → Clock
 clockAt c second ticksInto = record { perSecond = c .perSecond; isSet = true; second = second; ticksInto = ticksInto }
 
@@ -125,6 +131,7 @@ pub record Effect : Type 0 where
   pub fired : List Link
   pub lent : List ℕ
 
+-- a call that fires nothing, with its answer. Calls with no answer named in document 01 answer 0.
 abbrev pub leaves : State → ℕ → Effect
 leaves s n = record { state = s; answer = n ∷ []; fired = []; lent = [] }
 
@@ -141,7 +148,8 @@ ticked s list =
     let later = reclock (fire ByTicks 0 near) clock in
     firing (fire ByDate (clock .second) later) (due ByTicks 0 near ++ due ByDate (clock .second) later) list
 
--- Set clock: seconds as given, word 4 to 0, clock set. Dated timers at or before the new second fire now.
+-- Set clock: seconds as given, word 4 to 0, clock set. Dated timers at or before the new second fire now. Interval timers don't change. A clock
+-- set back moves no date.
 abbrev pub clockMoved : State → ℕ → List ℕ → Effect
 clockMoved s second list =
     let now = reclock s (clockAt (s .clock) second 0) in firing (fire ByDate second now) (due ByDate second now) list
@@ -150,6 +158,9 @@ clockMoved s second list =
 abbrev pub numbers : WallTime → ℕ → List ℕ
 numbers w ticks = w .year ∷ w .month ∷ w .day ∷ w .hour ∷ w .minute ∷ w .second ∷ ticks ∷ []
 
+-- Create answers the id of the lowest free slot, which becomes kind 1; ident that of the lowest slot with the name. Delete: cancelled if waiting,
+-- then the slot is free and all zero. Reset: start again with the stored interval, routine and data, as fire after would. Ticks left: 0 for any kind
+-- but 4, which alone is in the interval chain.
 abbrev pub effect : State → Call → Effect
 effect s (layOut n t) = leaves (laidOut (s .room) n t) 0
 effect s (create name) = leaves (stored s (lowestFree s) (unused name)) (idBase + lowestFree s)

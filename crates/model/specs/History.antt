@@ -16,6 +16,7 @@ pub data Due : Type 0 where
   afterTicks : ℕ → Due
   atDate : ℕ → Due
 
+-- a start: the timer's id, when it is due, and what it lists when it fires
 pub record Start : Type 0 where
   pub id : ℕ
   pub due : Due
@@ -30,7 +31,7 @@ pub data Event : Type 0 where
   clockSetTo : ℕ → Event
   nothing : Event
 
--- A reset takes its ticks, routine and data from that timer's last start before it. (It is accepted only where there is one since its create.)
+-- the start that an event is
 abbrev pub startIn : Event → Option Start
 startIn (laidOutFor t) = none
 startIn (changes id s) = s
@@ -38,6 +39,8 @@ startIn oneTick = none
 startIn (clockSetTo d) = none
 startIn nothing = none
 
+-- A reset takes its ticks, routine and data from that timer's last start before it: the last one under its id, since a timer with no start
+-- since its create is not reset (11).
 abbrev pub newer : ℕ → Option Start → Option Start → Option Start
 newer id none older = older
 newer id (some s) older = cond (eqb (s .id) id) (some s) older
@@ -68,6 +71,7 @@ eventsFrom before (c ∷ cs) = eventOf before c ∷ eventsFrom (eventOf before c
 
 -- ---- the clock
 
+-- an accepted tick, and how many there are
 abbrev pub isTick : Event → Bool
 isTick (laidOutFor t) = false
 isTick (changes i s) = false
@@ -152,6 +156,7 @@ abbrev pub dueWithin : Due → List Event → List Event → Bool
 dueWithin (afterTicks n) before after = leb n (ticks after)
 dueWithin (atDate d) before after = reached d before after
 
+-- it was due, and it was ended, in what came after it
 abbrev pub wasDue : Placed → Bool
 wasDue g = dueWithin (g .begun .due) (g .before) (g .after)
 

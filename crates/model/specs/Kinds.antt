@@ -17,9 +17,11 @@ abbrev pub idleKind : Chain → ℕ
 idleKind ByTicks = 2
 idleKind ByDate = 3
 
+-- the kind is of a timer that waits in this chain
 abbrev pub waitsIn : Chain → ℕ → Bool
 waitsIn k kind = eqb kind (waitingKind k)
 
+-- the kind is 2 or 4
 abbrev pub lastByTicks : ℕ → Bool
 lastByTicks kind = eqb kind (idleKind ByTicks) || eqb kind (waitingKind ByTicks)
 

@@ -20,6 +20,7 @@ module _ {A : Type 0} where
   keep p [] = []
   keep p (x ∷ xs) = cond (p x) (x ∷ keep p xs) (keep p xs)
 
+  -- some element passes the test; every one does
   abbrev pub any : (A → Bool) → List A → Bool
   any p [] = false
   any p (x ∷ xs) = p x || any p xs
@@ -38,6 +39,7 @@ module _ {A : Type 0} where
   place key x [] = x ∷ []
   place key x (y ∷ ys) = cond (goesBehind (key x) (key y)) (y ∷ place key x ys) (x ∷ y ∷ ys)
 
+  -- P holds of every element
   abbrev pub All : (A → Type 0) → List A → Type 0
   All P [] = Unit {0}
   All P (x ∷ xs) = P x × All P xs

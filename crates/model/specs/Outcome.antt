@@ -12,12 +12,14 @@ use Rattle.model.specs.Directives.{refusals, effect}
 use Rattle.model.specs.Words.{over, read}
 use Rattle.model.specs.Sound.{sound}
 
+-- what comes of a call
 pub record Outcome : Type 0 where
   pub status : ℕ
   pub answer : List ℕ
   pub table : List ℕ
   pub list : List ℕ
 
+-- Each number is given exactly when its rule says so, the first rule that applies; 0 when none does.
 unfoldable pub statusOn : List ℕ → Call → ℕ
 statusOn t c = firstOf (refusals (not (sound t)) (read t) c)
 
@@ -34,10 +36,12 @@ entryWords (f ∷ fs) = f .id ∷ f .routine ∷ f .userData ∷ entryWords fs
 abbrev pub written : List Fired → List ℕ → List ℕ
 written fs list = entryWords fs ++ drop (length (entryWords fs)) list
 
+-- where no rule applies, what the call does
 abbrev pub accepted : List ℕ → Call → Outcome
 accepted t c =
     let e = effect (read t) c in
     record { status = 0; answer = e .answer; table = over (e .state) t; list = written (map (listed (read t .slots)) (e .fired)) (e .lent) }
 
+-- Accepted means status 0; any other status is a refusal.
 unfoldable pub outcome : List ℕ → Call → Outcome
 outcome t c = cond (eqb (statusOn t c) 0) (accepted t c) (refused (statusOn t c) t c)

@@ -70,6 +70,7 @@ rising b (w ∷ ws) = leb b (w .wait) && rising (w .wait) ws
 unfoldable pub datesSound : List ℕ → Bool
 datesSound t = rising (suc (word t 3)) (links ByDate t) && every (λ w. leb (w .wait) lastSecond) (links ByDate t)
 
+-- A table is sound when all of this holds.
 unfoldable pub sound : List ℕ → Bool
 sound t = allOf (
     headerSound t ∷ allUp (slotSound t) 1 (word t 0) ∷ chainSound ByTicks t ∷ chainSound ByDate t ∷ ticksSound t ∷ datesSound t ∷ [])

@@ -9,6 +9,7 @@ use Rattle.calendar.specs.Calendar.{allOf}
 use Rattle.model.specs.Lists.{keep}
 use Rattle.model.specs.Kinds.{Chain, ByTicks, ByDate}
 
+-- the words of a slot but for its wait and links
 pub record Slot : Type 0 where
   pub kind : ℕ
   pub name : ℕ
@@ -36,6 +37,7 @@ pub record State : Type 0 where
   pub ticking : List Link
   pub dated : List Link
 
+-- a chain of the state
 abbrev pub chainOf : Chain → State → List Link
 chainOf ByTicks s = s .ticking
 chainOf ByDate s = s .dated
@@ -48,6 +50,7 @@ rechain ByDate s slots links = record { room = s .room; slots = slots; clock = s
 abbrev pub reclock : State → Clock → State
 reclock s clock = record { room = s .room; slots = s .slots; clock = clock; ticking = s .ticking; dated = s .dated }
 
+-- Kind 0: every other word zero.
 abbrev pub free : Slot
 free = record { kind = 0; name = 0; interval = 0; routine = 0; userData = 0 }
 
@@ -81,10 +84,9 @@ idBase = 0x12010000
 abbrev pub indexOf : ℕ → ℕ
 indexOf id = id - idBase
 
--- An id names a timer when the index is 1 to N and the slot is not free.
+-- An id names a timer when the index is 1 to N and the slot is not free. Ids are used again after a delete; a stale id then names the new timer.
 abbrev pub names : State → ℕ → Bool
-names s id =
-    allOf (ltb idBase id ∷ leb (indexOf id) (length (s .slots)) ∷ not (eqb (slotAt (s .slots) (indexOf id) .kind) 0) ∷ [])
+names s id = allOf (ltb idBase id ∷ leb (indexOf id) (length (s .slots)) ∷ not (eqb (slotAt (s .slots) (indexOf id) .kind) 0) ∷ [])
 
 -- an entry of the fired list: id, routine, user data
 pub record Fired : Type 0 where
@@ -92,6 +94,6 @@ pub record Fired : Type 0 where
   pub routine : ℕ
   pub userData : ℕ
 
+-- the entry of a timer that fires
 abbrev pub listed : List Slot → Link → Fired
-listed slots w =
-    record { id = idBase + w .slot; routine = slotAt slots (w .slot) .routine; userData = slotAt slots (w .slot) .userData }
+listed slots w = record { id = idBase + w .slot; routine = slotAt slots (w .slot) .routine; userData = slotAt slots (w .slot) .userData }

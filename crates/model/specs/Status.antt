@@ -5,6 +5,7 @@ use mathlib.Core.List.{List, [], _∷_}
 pub use Rattle.model.specs.declared.Status.{Status}
 pub use Rattle.model.specs.declared.Status.the-variants.{InvalidName, InvalidId, TooMany, InvalidSize, InvalidAddress, InvalidNumber, NotDefined, InvalidClock, NotSound, ListTooShort}
 
+-- the number of each status
 abbrev pub numberOf : Status → ℕ
 numberOf InvalidName = 3
 numberOf InvalidId = 4
@@ -17,11 +18,12 @@ numberOf InvalidClock = 20
 numberOf NotSound = 100
 numberOf ListTooShort = 101
 
--- a rule of the table of status numbers: this number is given where that test holds
+-- a rule of the table of status numbers: a number, and whether it applies
 pub record Refusal : Type 0 where
   pub number : ℕ
   pub given : Bool
 
+-- this status is given where that test holds
 abbrev pub when : Status → Bool → Refusal
 when status b = record { number = numberOf status; given = b }
 

@@ -49,6 +49,7 @@ abbrev pub allSlots : State → ℕ → List Slot → List ℕ → List ℕ
 allSlots s i [] rest = rest
 allSlots s i (x ∷ xs) rest = slotWords s i x (allSlots s (suc i) xs rest)
 
+-- the words of a state, and then those that follow them
 abbrev pub write : State → List ℕ → List ℕ
 write s rest =
     length (s .slots) ∷ s .clock .perSecond ∷ cond (s .clock .isSet) 1 0 ∷ s .clock .second ∷ s .clock .ticksInto
@@ -88,21 +89,22 @@ abbrev pub linksFrom : Chain → List ℕ → ℕ → ℕ → ℕ → List Link
 linksFrom k t zero before i = []
 linksFrom k t (suc fuel) before zero = []
 linksFrom k t (suc fuel) before (suc i) =
-    record { slot = suc i; wait = total k before (field t 3 (suc i)) }
-    ∷ linksFrom k t fuel (total k before (field t 3 (suc i))) (field t 6 (suc i))
+    let wait = total k before (field t 3 (suc i)) in record { slot = suc i; wait = wait } ∷ linksFrom k t fuel wait (field t 6 (suc i))
 
+-- The chain, followed by next from word 5 or 6.
 abbrev pub links : Chain → List ℕ → List Link
 links k t = linksFrom k t (word t 0) 0 (word t (headWord k))
 
+-- slot i
 abbrev pub slotFrom : List ℕ → ℕ → Slot
-slotFrom t i =
-    record { kind = field t 0 i; name = field t 1 i; interval = field t 2 i; routine = field t 4 i; userData = field t 5 i }
+slotFrom t i = record { kind = field t 0 i; name = field t 1 i; interval = field t 2 i; routine = field t 4 i; userData = field t 5 i }
 
 -- n slots from i on
 abbrev pub slotsFrom : List ℕ → ℕ → ℕ → List Slot
 slotsFrom t i zero = []
 slotsFrom t i (suc n) = slotFrom t i ∷ slotsFrom t (suc i) n
 
+-- the state that a table's words hold
 abbrev pub read : List ℕ → State
 read t =
     let clock : Clock = record { perSecond = word t 1; isSet = eqb (word t 2) 1; second = word t 3; ticksInto = word t 4 } in

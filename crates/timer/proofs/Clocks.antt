@@ -17,7 +17,7 @@ use Rattle.calendar.proofs.Theorems.{second-answer, not-valid-answer, on-answer
 use Rattle.model.specs.declared.Chain.the-variants.{ByDate}
 use Rattle.model.specs.Lists.{All}
 use Rattle.model.specs.Calls.{tick, setClock}
-use Rattle.model.specs.Directives.{isPast, started, clockStep, numbers}
+use Rattle.model.specs.Directives.{notAhead, started, clockStep, numbers}
 use Rattle.model.specs.Words.{over, word, read}
 use Rattle.model.specs.Sound.{sound}
 use Rattle.model.specs.Outcome.{outcome}
@@ -41,15 +41,15 @@ module _ (t : List ℕ) where
 
   -- ---- fire when
 
-  pub not-a-date : (w : WallTime) {i : Instant} → i ≡ instantOf w → i ≡ NotValid → isPast (read t) w ≡ true
+  pub not-a-date : (w : WallTime) {i : Instant} → i ≡ instantOf w → i ≡ NotValid → notAhead (read t) w ≡ true
   not-a-date w e n = ap (λ (b : Bool). not (b && ltb (word t 3) (secondsOf w))) (not-valid-answer w e n)
 
-  pub past-date : (w : WallTime) (s : ℕ) {i : Instant} → i ≡ instantOf w → i ≡ Second s → s ≤ word t 3 → isPast (read t) w ≡ true
+  pub past-date : (w : WallTime) (s : ℕ) {i : Instant} → i ≡ instantOf w → i ≡ Second s → s ≤ word t 3 → notAhead (read t) w ≡ true
   past-date w s e n h =
       let a = second-answer w s e n in
       ap₂ (λ (b c : Bool). not (b && c)) (a .is-valid) (le-ltb (word t 3) (secondsOf w) (omega (arith, a .is)))
 
-  pub later-date : (w : WallTime) (s : ℕ) {i : Instant} → i ≡ instantOf w → i ≡ Second s → word t 3 < s → isPast (read t) w ≡ false
+  pub later-date : (w : WallTime) (s : ℕ) {i : Instant} → i ≡ instantOf w → i ≡ Second s → word t 3 < s → notAhead (read t) w ≡ false
   later-date w s e n h =
       let a = second-answer w s e n in
       ap₂ (λ (b c : Bool). not (b && c)) (a .is-valid) (lt-ltb (word t 3) (secondsOf w) (omega (arith, a .is)))
