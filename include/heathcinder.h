@@ -19,13 +19,25 @@
  *          1  never started                             4  waiting for ticks
  *          2  idle, last started by interval            5  waiting for a date
  *
- * A timer's id is 0x12010000 plus its slot index. Words past 10 + 8N are neither read nor changed.
+ * A timer's id is 0x12010000 plus its slot index. Words past 10 + 8N are neither read nor changed. Words are in the
+ * machine's own byte order and hold no address, so a table may be moved or copied between calls.
+ *
+ * A table is sound when its words fit together: numbers within the limits above, each waiting timer exactly once in the
+ * chain of its kind, links the same from either end, ticks left up to the interval, dates after the present second. One
+ * that was never laid out is refused with HC_NOT_SOUND, and so is one whose words something else has put out of order.
+ * The whole rule is `sound` in crates/model/specs/Sound.antt.
+ *
+ * A timer that fires is listed: id, routine and user data. The library calls no routine; routine and user data are
+ * numbers of the caller's, the routine any but 0.
  *
  * What the caller must see to:
  *   - No pointer is null, and each is aligned for its type.
  *   - A length is true: that many words may be read, and written where the pointer is not to const.
  *   - The table, the fired list, the wall time and the word for an answer do not overlap.
- *   - Nobody else reads or writes them during a call. A call from an interrupt needs a lock of the caller's.
+ *   - Nobody else reads or writes them during a call: where an interrupt makes calls on the same table, keep it out.
+ *   - There is stack: hc_ticks_left takes 32 bytes for each timer ahead of its own, 8.2 KB at most, the other calls some
+ *     300 bytes. The code is for x86-64, uses SSE registers and the red zone, and needs memset; it allocates nothing
+ *     and has no data of its own.
  */
 #ifndef HEATHCINDER_H
 #define HEATHCINDER_H
@@ -54,67 +66,73 @@ extern "C" {
 #define HC_TABLE_WORDS(slots) (10u + 8u * (slots))
 #define HC_LIST_WORDS(slots) (3u * (slots))
 
-/* Years 1988 to 2099. The ticks field is ignored wherever a wall time is given, and filled by hc_get_clock. */
+/* Years 1988 to 2099, months and days from 1; no time zone, no leap seconds. The ticks field is ignored wherever a wall
+ * time is given, and filled by hc_get_clock. */
 struct hc_wall_time {
     uint32_t year, month, day, hour, minute, second, ticks;
 };
 
-/* Each call gives its status as the result, the first that applies in the order named. An answer goes through
- * the last pointer; on a refusal it is 0 and table and list stay as they were. */
+/* Each call gives its status as the result: HC_NOT_SOUND where the table is not sound (but for hc_lay_out), then the
+ * first that applies in the order named with the call, else HC_SUCCESSFUL. An answer goes through the last pointer; on a
+ * refusal it is 0, and table and list stay as they were. */
 
 /* Makes a table of so many free slots, clock not set; words is the length lent.
- * 10 slots not 1 to 255 or ticks_per_second not 1 to 1000; 8 fewer than HC_TABLE_WORDS(slots) words. */
+ * HC_INVALID_NUMBER: slots not 1 to 255, or ticks_per_second not 1 to 1000. HC_INVALID_SIZE: fewer than
+ * HC_TABLE_WORDS(slots) words. */
 uint32_t hc_lay_out(uint32_t *table, size_t words, uint32_t slots, uint32_t ticks_per_second);
 
 /* Takes the lowest free slot for a timer of this name and answers its id. Equal names are allowed.
- * 100; 3 name 0; 5 no slot is free. */
+ * HC_INVALID_NAME: name 0. HC_TOO_MANY: no slot is free; no timer was made, and none can be armed. */
 uint32_t hc_create(uint32_t *table, size_t words, uint32_t name, uint32_t *id);
 
 /* Answers the id of the lowest slot with this name.
- * 100; 3 name 0 or no such name. */
+ * HC_INVALID_NAME: name 0, or no such name. */
 uint32_t hc_ident(const uint32_t *table, size_t words, uint32_t name, uint32_t *id);
 
 /* Stops a waiting timer; any other stays as it is, and that is no refusal.
- * 100; 4 no such timer. */
+ * HC_INVALID_ID: the id names no timer. */
 uint32_t hc_cancel(uint32_t *table, size_t words, uint32_t id);
 
-/* Stops the timer if it waits, and frees its slot. The id may name a later timer.
- * 100; 4 no such timer. */
+/* Stops the timer if it waits, and frees its slot. Once the slot is taken again, the same id names the new timer.
+ * HC_INVALID_ID: the id names no timer. */
 uint32_t hc_delete(uint32_t *table, size_t words, uint32_t id);
 
-/* Starts the timer, anew if it waits: it fires in the ticks-th tick from now, after those due at the same tick.
- * 100; 10 ticks 0; 9 routine 0; 4 no such timer. */
+/* Starts the timer, anew if it waits: with ticks n it fires in the nth accepted hc_tick from now, after those due in
+ * the same one, whatever the clock does.
+ * HC_INVALID_NUMBER: ticks 0. HC_INVALID_ADDRESS: routine 0. HC_INVALID_ID: the id names no timer. */
 uint32_t hc_fire_after(uint32_t *table, size_t words, uint32_t id, uint32_t ticks, uint32_t routine,
                        uint32_t data);
 
-/* Starts the timer, anew if it waits: it fires when the clock reaches that date, after those of the same date.
- * 100; 11 clock not set; 9 routine 0; 20 date not valid, or not after the present second; 4 no such timer. */
+/* Starts the timer, anew if it waits: it fires in the first hc_tick or hc_set_clock that leaves the clock at or past
+ * that date, after those of the same date.
+ * HC_NOT_DEFINED: clock not set. HC_INVALID_ADDRESS: routine 0. HC_INVALID_CLOCK: date not valid, or not after the
+ * present second. HC_INVALID_ID: the id names no timer. */
 uint32_t hc_fire_when(uint32_t *table, size_t words, uint32_t id, const struct hc_wall_time *when,
                       uint32_t routine, uint32_t data);
 
 /* Starts a timer last started by interval again, with the same ticks, routine and data.
- * 100; 4 no such timer; 11 never started, or last started by date. */
+ * HC_INVALID_ID: the id names no timer. HC_NOT_DEFINED: never started, or last started by date. */
 uint32_t hc_reset(uint32_t *table, size_t words, uint32_t id);
 
 /* Answers the ticks until the timer fires; 0 if it does not wait for ticks.
- * 100; 4 no such timer. */
+ * HC_INVALID_ID: the id names no timer. */
 uint32_t hc_ticks_left(const uint32_t *table, size_t words, uint32_t id, uint32_t *ticks);
 
-/* One tick passes: interval timers come nearer and those due fire; then the clock, if set, goes on, up to its last
- * tick in 2099, and dated timers that it reaches fire. Writes id, routine and user data of each timer that fires to
- * the list, interval timers first, then by date, the earlier start first among equals, and answers how many; list
- * words after those stay.
- * 100; 101 fewer than HC_LIST_WORDS(N) words of list. */
+/* One tick passes: interval timers come nearer and those due fire; then the clock, if set, goes on, up to its last tick
+ * in 2099, and dated timers that it reaches fire. Writes id, routine and user data of each timer that fires to the list:
+ * interval timers first, in the order of their starts, then dated ones by date, the earlier start first among equals.
+ * Answers how many; list words after those stay.
+ * HC_LIST_TOO_SHORT: fewer than HC_LIST_WORDS(N) words of list; the tick is not counted. */
 uint32_t hc_tick(uint32_t *table, size_t words, uint32_t *fired, size_t fired_words, uint32_t *count);
 
 /* Sets the clock to the second given, 0 ticks into it. Dated timers at or before it fire now, listed as by hc_tick.
  * Interval timers do not change, and a clock set back moves no date.
- * 100; 101 fewer than HC_LIST_WORDS(N) words of list; 20 date not valid. */
+ * HC_LIST_TOO_SHORT: fewer than HC_LIST_WORDS(N) words of list. HC_INVALID_CLOCK: date not valid. */
 uint32_t hc_set_clock(uint32_t *table, size_t words, const struct hc_wall_time *now, uint32_t *fired,
                       size_t fired_words, uint32_t *count);
 
-/* Answers the present date and the ticks into the second; all seven are 0 on a refusal.
- * 100; 11 clock not set. */
+/* Answers the present date and the ticks into its second; all seven are 0 on a refusal.
+ * HC_NOT_DEFINED: clock not set. */
 uint32_t hc_get_clock(const uint32_t *table, size_t words, struct hc_wall_time *now);
 
 #ifdef __cplusplus

@@ -273,7 +273,8 @@ pub fn store(t: &mut [u32], i: u32, kind: u32, name: u32)
     fill(t, i, kind, 0, 0, 0);
 }
 
-// The ticks left of a slot of the interval chain: its wait and those of every slot before it. Reborrowed as in `table::is_sound`.
+// The ticks left of a slot of the interval chain: its wait and those of every slot before it. The slice is reborrowed where it is passed
+// on, which saves a copy at each step.
 pub fn ticks_to(t: &[u32], i: u32) -> u32
     requires { ⌜ Holds (now t) (read (now t)) × (0 < timesIn (read (now t) .ticking) i) ⌝ }
     ensures { λ r. ⌜ r ≡ waitAt i (read (now (t .entry)) .ticking) ⌝ }
