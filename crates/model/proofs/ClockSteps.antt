@@ -1,5 +1,4 @@
--- One tick of the clock: it stays within its bounds, and its second goes up by one at most. Each law is read off the four ways that a step
--- can go. Assumes nothing.
+-- One tick of the clock: it stays within its bounds. Each law is read off the four ways that a step can go. Assumes nothing.
 use mathlib.Core.Path.{_≡_, refl, sym}
 use Prim.Native.Nat.{suc, _≤_, _<_}
 use native.Mathlib.Omega.{arith}
@@ -47,12 +46,6 @@ module _ (c : Clock) where
 
   pub clock-into : c .ticksInto < c .perSecond → clockStep c .ticksInto < clockStep c .perSecond
   clock-into p = clock-cases (λ d. d .ticksInto < d .perSecond) (λ e. p) (λ e f. f) (λ e f g. omega arith) (λ e f g. p)
-
-  pub clock-rises : c .second ≤ clockStep c .second
-  clock-rises = clock-cases (λ d. c .second ≤ d .second) (λ e. omega arith) (λ e f. omega arith) (λ e f g. omega arith) (λ e f g. omega arith)
-
-  pub clock-by-one : clockStep c .second ≤ suc (c .second)
-  clock-by-one = clock-cases (λ d. d .second ≤ suc (c .second)) (λ e. omega arith) (λ e f. omega arith) (λ e f g. omega arith) (λ e f g. omega arith)
 
   pub clock-last : c .second ≤ lastSecond → clockStep c .second ≤ lastSecond
   clock-last p = clock-cases (λ d. d .second ≤ lastSecond) (λ e. p) (λ e f. p) (λ e f g. g) (λ e f g. p)

@@ -41,10 +41,6 @@ module _ {A : Type 0} where
   pub keep-order : (key : A → ℕ) (p : A → Bool) (l : List A) → keep p (order key l) ≡ order key (keep p l)
   keep-order key p l = keep-orderOn key p [] l tt
 
-  pub orderOn-snoc : (key : A → ℕ) (acc l : List A) (x : A) → orderOn key acc (l ++ (x ∷ [])) ≡ place key x (orderOn key acc l)
-  orderOn-snoc key acc [] x = refl
-  orderOn-snoc key acc (y ∷ ys) x = orderOn-snoc key (place key y acc) ys x
-
   pub orderOn-append : (key : A → ℕ) (acc l m : List A) → orderOn key acc (l ++ m) ≡ orderOn key (orderOn key acc l) m
   orderOn-append key acc [] m = refl
   orderOn-append key acc (y ∷ ys) m = orderOn-append key (place key y acc) ys m

@@ -160,20 +160,6 @@ module _ (unsound : Bool) (s : State) where
   pub not-refused : (c : Call) → firstOf (refusals unsound s c) ≡ 0 → (k : ℕ) → getD (refusals unsound s c) k noRule .given ≡ false
   not-refused c e = passes (refusals unsound s c) (all-numbered c) e
 
-  pub passed-sound : (c : Call) → isLayOut c ≡ false → firstOf (refusals unsound s c) ≡ 0 → unsound ≡ false
-  passed-sound (layOut n t) l e = clash l
-  passed-sound (create name) l e = not-refused (create name) e 0
-  passed-sound (ident name) l e = not-refused (ident name) e 0
-  passed-sound (cancel id) l e = not-refused (cancel id) e 0
-  passed-sound (delete id) l e = not-refused (delete id) e 0
-  passed-sound (fireAfter id n r u) l e = not-refused (fireAfter id n r u) e 0
-  passed-sound (fireWhen id w r u) l e = not-refused (fireWhen id w r u) e 0
-  passed-sound (reset id) l e = not-refused (reset id) e 0
-  passed-sound (ticksLeft id) l e = not-refused (ticksLeft id) e 0
-  passed-sound (tick list) l e = not-refused (tick list) e 0
-  passed-sound (setClock w list) l e = not-refused (setClock w list) e 0
-  passed-sound getClock l e = not-refused getClock e 0
-
   long-enough : (list : List ℕ) → isShort s list ≡ false → LongEnough s list
   long-enough list e = ltb-false (length list) (3 * length (s .slots)) e
 

@@ -21,6 +21,7 @@ use Rattle.model.proofs.Slots.{at-same, at-other, field-put, Memo, memo
 use Rattle.model.proofs.Chains.{other, both-chains}
 use Rattle.model.proofs.WellFormed.{WellFormed}
 use Rattle.model.proofs.ClockSteps.{clock-unset, clock-isSet, clock-perSecond, clock-into}
+use Rattle.model.proofs.Steps.{clock-started}
 use Rattle.model.proofs.HistoryLaws.{fresh, dueNow}
 use Rattle.model.proofs.ChainLaws.{chainFrom, amount, presses, map-same, chain-other, chain-calm, chain-start}
 use Rattle.model.proofs.ClockLaws.{onward, one-later, standing, at-or-past, step-onward}
@@ -234,12 +235,15 @@ module _ (s : State) (A h : List Event) (v : Agrees s A h) (id i : ℕ) (is : id
           (ap₂ (λ (sl : List Slot) (l : List Link). map (shown sl) l) (slots-are k) (own-chain k) ∙ own)
           (ap₂ (λ (sl : List Slot) (l : List Link). map (shown sl) l) (slots-are k) (other-chain k) ∙ off (other k) (not-other k d here));
       memory = λ j. subst (λ (sl : List Slot). Remembers (starting id d r u ∷ h) j (memo (slotAt sl j))) (sym (slots-are k)) (remember j);
-      per = v .per ∙ ap (λ (c : Clock). c .perSecond) (clock-is k);
-      clock = v .clock ∙ ap standing (clock-is k);
+      per = v .per ∙ ap (λ (c : Clock). c .perSecond) (sym same-clock);
+      clock = v .clock ∙ ap standing (sym same-clock);
     }
       where
         st : State
         st = started k s i (amount d) interval r u
+
+        same-clock : st .clock ≡ s .clock
+        same-clock = clock-started k s i (amount d) interval r u
 
         x : Chain → Slot
         x k = waitingAs k (slotAt (s .slots) i) interval r u
@@ -255,10 +259,6 @@ module _ (s : State) (A h : List Event) (v : Agrees s A h) (id i : ℕ) (is : id
         other-chain : (k : Chain) → chainOf (other k) (started k s i (amount d) interval r u) ≡ without i (chainOf (other k) s)
         other-chain ByTicks = refl
         other-chain ByDate = refl
-
-        clock-is : (k : Chain) → s .clock ≡ started k s i (amount d) interval r u .clock
-        clock-is ByTicks = refl
-        clock-is ByDate = refl
 
         remember : (j : ℕ) → Remembers (starting id d r u ∷ h) j (memo (slotAt (putAt (s .slots) i (x k)) j))
         remember = put-at (λ j y. Remembers (starting id d r u ∷ h) j (memo y)) (s .slots) i (x k) low high

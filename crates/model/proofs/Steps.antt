@@ -192,9 +192,6 @@ module _ (k : Chain) (s : State) where
     pub length-started : length (started k s i wait interval r u .slots) ≡ length (s .slots)
     length-started = simp (rechain-slots, length-put)
 
-    pub room-started : started k s i wait interval r u .room ≡ s .room
-    room-started = simp rechain-room
-
     pub clock-started : started k s i wait interval r u .clock ≡ s .clock
     clock-started = simp rechain-clock
 
@@ -206,9 +203,6 @@ module _ (k : Chain) (limit : ℕ) (s : State) where
 
   pub room-fire : fire k limit s .room ≡ s .room
   room-fire = simp rechain-room
-
-  pub clock-fire : fire k limit s .clock ≡ s .clock
-  clock-fire = simp rechain-clock
 
   -- the timers that are due, and those that are not, are the chain
   due-parts : (j : ℕ) → timesIn (due k limit s) j + timesIn (keep (λ w. ltb limit (w .wait)) (chainOf k s)) j ≡ timesIn (chainOf k s) j
