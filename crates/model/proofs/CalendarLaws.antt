@@ -3,9 +3,8 @@ use mathlib.Core.Path.{_≡_}
 use Prim.Native.Nat.{_≤_}
 use mathlib.Core.Bool.{true}
 use Rattle.calendar.specs.declared.WallTime.{WallTime}
-use Rattle.calendar.specs.Calendar.{valid, secondsOf}
+use Rattle.calendar.specs.Calendar.{valid, secondsOf, lastSecond}
 use Rattle.calendar.proofs.Theorems.{seconds-in-range}
-use Rattle.calendar.specs.Calendar.{lastSecond}
 
 pub valid-seconds : (w : WallTime) → valid w ≡ true → secondsOf w ≤ lastSecond
 valid-seconds w e = seconds-in-range w e

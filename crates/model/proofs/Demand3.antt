@@ -1,7 +1,7 @@
 -- Demand 3, for every slice, every accepted lay out on it, and every list of calls. By induction on the list: the table stays sound, and
 -- the state that it holds agrees with the events of the accepted calls. Assumes nothing.
 use mathlib.Core.Path.{_≡_, refl, sym, ap, ap₂, _∙_, subst}
-use Prim.Native.Nat.{ℕ, _+_}
+use Prim.Native.Nat.{ℕ}
 use native.Mathlib.Omega.{arith}
 use mathlib.Core.Bool.{Bool, true, false, cond, not}
 use mathlib.Core.List.{List, [], _∷_, _++_, map, reverse, reverseAux, append-assoc, append-nil}

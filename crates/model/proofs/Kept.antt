@@ -8,15 +8,13 @@ use mathlib.Core.List.{List, [], _∷_}
 use lib.ListN.{length, length-append}
 use lib.Dec.{leb, ltb, eqb}
 use borrow.Author.Tests.{ltb-true, eqb-true}
-use Rattle.calendar.specs.Calendar.{secondsOf}
+use Rattle.calendar.specs.Calendar.{secondsOf, lastSecond}
 use Rattle.model.specs.Lists.{keep, place, All}
 use Rattle.model.specs.Status.{firstOf}
 use Rattle.model.specs.Calls.{Call, layOut, create, ident, cancel, delete, fireAfter, fireWhen, reset, ticksLeft, tick, setClock, getClock}
 use Rattle.model.specs.Kinds.{Chain, ByTicks, ByDate, waitsIn}
 use Rattle.model.specs.State.{Slot, Link, Clock, State, chainOf, rechain, reclock, free, slotAt, putAt, without, indexOf}
-use Rattle.calendar.specs.Calendar.{lastSecond}
-use Rattle.model.specs.Directives.{refusals, lowestFree, laidOut, stored, unused, stopped, idled, waitingAs, started}
-use Rattle.model.specs.Directives.{due, fire, nearer, clockAt, clockStep, effect}
+use Rattle.model.specs.Directives.{refusals, lowestFree, laidOut, stored, unused, stopped, idled, waitingAs, started, due, fire, nearer, clockAt, clockStep, effect}
 use Rattle.model.proofs.ListLaws.{cases, clash, all-map, all-keep, all-passed, all-zip, all-place, length-keep}
 use Rattle.model.proofs.Slots.{put-any, length-put, length-idleAll, blank}
 use Rattle.model.proofs.WellFormed.{Chained, Shape, WellFormed}
@@ -25,8 +23,7 @@ use Rattle.model.proofs.CalendarLaws.{valid-seconds}
 use Rattle.model.proofs.ClockSteps.{clock-isSet, clock-perSecond, clock-into, clock-last, clock-unset}
 use Rattle.model.proofs.Searches.{found}
 use Rattle.model.proofs.Shapes.{free-shape, unused-shape, Interval, waiting-shape, idle-shape, shape-idleAll, timed-started}
-use Rattle.model.proofs.Steps.{Within, below-waiting, stopped-chain, length-laid, length-stored, length-stopped, length-started, length-fire}
-use Rattle.model.proofs.Steps.{chained-stored, chained-stopped, chained-started, chained-fire, chained-nearer, chained-reclock, chained-laid}
+use Rattle.model.proofs.Steps.{Within, below-waiting, stopped-chain, length-laid, length-stored, length-stopped, length-started, length-fire, chained-stored, chained-stopped, chained-started, chained-fire, chained-nearer, chained-reclock, chained-laid}
 use Rattle.model.proofs.Refused.{Named, passed, isLayOut}
 
 -- ---- the parts of well-formedness

@@ -13,7 +13,7 @@ use Rattle.model.specs.Lists.{keep, place, All}
 use Rattle.model.specs.Kinds.{Chain, ByTicks, ByDate, waitingKind, lastByTicks}
 use Rattle.model.specs.State.{Slot, Link, Clock, State, chainOf, free, slotAt, putAt, without, idBase, Fired, listed}
 use Rattle.calendar.specs.Calendar.{lastSecond}
-use Rattle.model.specs.Directives.{laidOut, stored, stopped, idleAll, waitingAs, started, due, closer, clockAt, clockStep, ticked, clockMoved}
+use Rattle.model.specs.Directives.{laidOut, stored, stopped, idleAll, waitingAs, started, closer, clockAt, clockStep, ticked, clockMoved}
 use Rattle.model.specs.History.{Due, afterTicks, atDate, Start, Event, laidOutFor, changes, oneTick, clockSetTo, nothing, lastStart, startIn, perSecond, clockAfter, atLeast, past, moves, Placed, ends, placed, dueWithin, waits, isFor, inChain, Waiting}
 use Rattle.model.specs.Demand.{shown}
 use Rattle.model.proofs.ListLaws.{cases, clash, all, all-map, all-passed, keep-all, keep-none, keep-map, keep-on, map-on, map-place, not-leb}
