@@ -50,7 +50,7 @@ length-without i [] = omega arith
 length-without i (w ∷ ws) = let ih = length-without i ws in cases (eqb (w .slot) i) (λ e. rw e (omega arith)) (λ e. rw e (omega arith))
 
 -- a link of a chain stands in it
-pub met : (p l : List Link) → All (λ w. 0 < timesIn (p ++ l) (w .slot)) l
+met : (p l : List Link) → All (λ w. 0 < timesIn (p ++ l) (w .slot)) l
 met p [] = tt
 met p (w ∷ ws) = (
   omega (arith, count-append (λ y. eqb (y .slot) (w .slot)) p (w ∷ ws), times-own w ws),
@@ -61,7 +61,7 @@ abbrev pub InSlots : ℕ → Link → Type 0
 InSlots n w = (0 < w .slot) × (w .slot ≤ n)
 
 -- different slots are no more than there are
-pub pigeons : (n : ℕ) (l : List Link) → All (InSlots n) l → ((i : ℕ) → timesIn l i ≤ 1) → length l ≤ n
+pigeons : (n : ℕ) (l : List Link) → All (InSlots n) l → ((i : ℕ) → timesIn l i ≤ 1) → length l ≤ n
 pigeons zero [] h k = omega arith
 pigeons zero (w ∷ ws) h k = omega (arith, h .0 .0, h .0 .1)
 pigeons (suc n) l h k =
@@ -97,7 +97,7 @@ waits-one kind =
     (λ e. let z : kind ≡ 4 = eqb-true kind 4 e in rw z (omega arith))
     (λ e. rw e (cases (waitsIn ByDate kind) (λ f. rw f (omega arith)) (λ f. rw f (omega arith))))
 
-pub waits-not-free : (k : Chain) (kind : ℕ) → 0 < cond (waitsIn k kind) 1 0 → kind ≡ 0 → ⊥
+waits-not-free : (k : Chain) (kind : ℕ) → 0 < cond (waitsIn k kind) 1 0 → kind ≡ 0 → ⊥
 waits-not-free k kind p e =
     cases (waitsIn k kind) (λ f. positive k (sym (eqb-true kind (waitingKind k) f) ∙ e)) (λ f. let z : 0 < 0 = rw f at p in omega arith)
   where

@@ -15,7 +15,7 @@ either P false x y f g = g refl
 
 module _ (c : Clock) where
   -- the clock is not set; within a second; into the next second; at the last tick of the last second
-  pub clock-cases : (P : Clock → Type 0)
+  clock-cases : (P : Clock → Type 0)
       → (c .isSet ≡ false → P c)
       → (c .isSet ≡ true → suc (c .ticksInto) < c .perSecond → P (clockAt c (c .second) (suc (c .ticksInto))))
       → (c .isSet ≡ true → c .perSecond ≤ suc (c .ticksInto) → c .second < lastSecond → P (clockAt c (suc (c .second)) 0))

@@ -36,13 +36,13 @@ use Rattle.model.proofs.Agreement.{agrees-step, lists-due, none-due, co
 use Rattle.model.proofs.OutcomeLaws.{status-is, outcome-accepted, outcome-refused, outcome-status}
 
 -- the table t is sound and its state agrees with the events es, of which h is the reverse
-pub record Good (t : List ℕ) (es h : List Event) : Type 0 where
-  pub is-sound : sound t ≡ true
-  pub agrees : Agrees (read t) es h
+record Good (t : List ℕ) (es h : List Event) : Type 0 where
+  is-sound : sound t ≡ true
+  agrees : Agrees (read t) es h
 
 -- ---- a table written by an accepted call
 
-pub laid-holds : (w : List ℕ) (n t : ℕ) → firstOf (refusals (not (sound w)) (read w) (layOut n t)) ≡ 0 → Holds (over (laidOut (length w) n t) w) (laidOut (length w) n t)
+laid-holds : (w : List ℕ) (n t : ℕ) → firstOf (refusals (not (sound w)) (read w) (layOut n t)) ≡ 0 → Holds (over (laidOut (length w) n t) w) (laidOut (length w) n t)
 laid-holds w n t e =
     let p = passed (not (sound w)) (read w) (layOut n t) e in
     written-holds w (laidOut (length w) n t) (chained-laid (length w) n t (p .slots-high)) (omega (arith, length-laid (length w) n t, p .fits)) refl
@@ -77,7 +77,7 @@ effect-holds t ok c e = go (isLayOut c) refl
 -- ---- one call more
 
 module _ (t : List ℕ) (es h : List Event) (g : Good t es h) (c : Call) where
-  pub good-step : statusOn t c ≡ 0 → Good (over (effect (read t) c .state) t) (es ++ (eventOf h c ∷ [])) (eventOf h c ∷ h)
+  good-step : statusOn t c ≡ 0 → Good (over (effect (read t) c .state) t) (es ++ (eventOf h c ∷ [])) (eventOf h c ∷ h)
   good-step e =
       let st = sym (status-is t c) ∙ e in
       let s = effect (read t) c .state in
@@ -89,7 +89,7 @@ module _ (t : List ℕ) (es h : List Event) (g : Good t es h) (c : Call) where
             (agrees-step (read t) es h (g .agrees) f (not (sound t)) c st);
       }
 
-  pub answers-now : Answers t es c (eventOf h c)
+  answers-now : Answers t es c (eventOf h c)
   answers-now = record {
     lists = λ e.
         let z : statusOn t c ≡ 0 = sym (outcome-status t c) ∙ e in
@@ -125,7 +125,7 @@ module _ (t : List ℕ) (es h : List Event) (g : Good t es h) (c : Call) where
       none k still =
           none-due (read t) es h (g .agrees) (sound-well-formed t (g .is-sound)) (not (sound t)) k (eventOf h c) still (no-tick (eventOf h c) still)
 
-  pub standing-now : Standing t es
+  standing-now : Standing t es
   standing-now =
       let hold = sound-holds t (g .is-sound) in
       record {

@@ -16,7 +16,7 @@ use Rattle.model.proofs.Order.{order, orderOn, all-orderOn, keep-order,
 
 -- ---- a list with one event more
 
-pub reached-snoc : (d : ℕ) (b l : List Event) (e : Event) → reached d b (l ++ (e ∷ [])) ≡ (reached d b l || (moves e && past d (e ∷ reverseAux l b)))
+reached-snoc : (d : ℕ) (b l : List Event) (e : Event) → reached d b (l ++ (e ∷ [])) ≡ (reached d b l || (moves e && past d (e ∷ reverseAux l b)))
 reached-snoc d b [] e = or-false (moves e && past d (e ∷ b))
   where
     or-false : (a : Bool) → (a || false) ≡ a
@@ -29,7 +29,7 @@ reached-snoc d b (x ∷ xs) e =
 abbrev pub fresh : List Event → Event → List Placed
 fresh h e = placed (startIn e) (e ∷ h) []
 
-pub starts-snoc : (b l : List Event) (e : Event) → startsFrom b (l ++ (e ∷ [])) ≡ map (also e) (startsFrom b l) ++ fresh (reverseAux l b) e
+starts-snoc : (b l : List Event) (e : Event) → startsFrom b (l ++ (e ∷ [])) ≡ map (also e) (startsFrom b l) ++ fresh (reverseAux l b) e
 starts-snoc b [] e = append-nil (fresh b e)
 starts-snoc b (x ∷ xs) e = go (startIn x) (fresh (reverseAux xs (x ∷ b)) e) (starts-snoc (x ∷ b) xs e)
   where
@@ -47,7 +47,7 @@ due-stays (atDate d) b l e h = reached-snoc d b l e ∙ or-left (reached d b l) 
 abbrev pub stays : Event → Placed → Bool
 stays e g = not (ends (g .begun .id) e) && not (wasDue (also e g))
 
-pub waits-also : (e : Event) (g : Placed) → waits (also e g) ≡ (waits g && stays e g)
+waits-also : (e : Event) (g : Placed) → waits (also e g) ≡ (waits g && stays e g)
 waits-also e g =
     ap (λ (b : Bool). not b && not (wasDue (also e g))) (any-snoc (ends (g .begun .id)) (g .after) e)
     ∙ still (wasEnded g) (ends (g .begun .id) e) (wasDue g) (wasDue (also e g)) (due-stays (g .begun .due) (g .before) (g .after) e)

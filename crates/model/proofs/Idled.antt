@@ -17,7 +17,7 @@ use Rattle.model.proofs.Chains.{idle-not-waiting}
 pub idle-stays : (kind : ℕ) → waitsIn ByTicks kind ≡ false → waitsIn ByDate kind ≡ false → idleOf kind ≡ kind
 idle-stays kind e f = rw (e, f)
 
-pub idled-twice : (x : Slot) → idled (idled x) ≡ idled x
+idled-twice : (x : Slot) → idled (idled x) ≡ idled x
 idled-twice x =
     ap (λ (k : ℕ). record { kind = k; name = x .name; interval = x .interval; routine = x .routine; userData = x .userData })
     (idle-stays (idleOf (x .kind)) (idle-not-waiting ByTicks (x .kind)) (idle-not-waiting ByDate (x .kind)))
@@ -28,7 +28,7 @@ at-own [] (suc i) = refl
 at-own (y ∷ ys) (suc zero) = refl
 at-own (y ∷ ys) (suc (suc i)) = at-own ys (suc i)
 
-pub at-idled : (sl : List Slot) (i j : ℕ) → slotAt (putAt sl i (idled (slotAt sl i))) j ≡ cond (eqb i j) (idled (slotAt sl j)) (slotAt sl j)
+at-idled : (sl : List Slot) (i j : ℕ) → slotAt (putAt sl i (idled (slotAt sl i))) j ≡ cond (eqb i j) (idled (slotAt sl j)) (slotAt sl j)
 at-idled sl i j =
     cases (eqb i j)
     (λ e. rw (e, ← eqb-true i j e) (at-own sl i))

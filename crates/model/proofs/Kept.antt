@@ -28,23 +28,23 @@ use Rattle.model.proofs.Refused.{Named, passed, isLayOut}
 
 -- ---- the parts of well-formedness
 
-pub record ClockFormed (c : Clock) : Type 0 where
-  pub per-low : 1 ≤ c .perSecond
-  pub per-high : c .perSecond ≤ 1000
-  pub into : c .ticksInto < c .perSecond
-  pub second-high : c .second ≤ lastSecond
-  pub unset : c .isSet ≡ false → (c .second ≡ 0) × (c .ticksInto ≡ 0)
+record ClockFormed (c : Clock) : Type 0 where
+  per-low : 1 ≤ c .perSecond
+  per-high : c .perSecond ≤ 1000
+  into : c .ticksInto < c .perSecond
+  second-high : c .second ≤ lastSecond
+  unset : c .isSet ≡ false → (c .second ≡ 0) × (c .ticksInto ≡ 0)
 
 -- a number that may stand in chain k, at that time
-abbrev pub Ahead : Chain → Clock → ℕ → Type 0
+abbrev Ahead : Chain → Clock → ℕ → Type 0
 Ahead ByTicks c wait = 1 ≤ wait
 Ahead ByDate c wait = (c .isSet ≡ true) × (c .second < wait) × (wait ≤ lastSecond)
 
-abbrev pub AllAhead : Chain → Clock → List Link → Type 0
+abbrev AllAhead : Chain → Clock → List Link → Type 0
 AllAhead k c l = All (λ w. Ahead k c (w .wait)) l
 
 module _ (s : State) (h : WellFormed s) where
-  pub clock-formed : ClockFormed (s .clock)
+  clock-formed : ClockFormed (s .clock)
   clock-formed = record {
     per-low = h .per-low;
     per-high = h .per-high;
@@ -53,14 +53,14 @@ module _ (s : State) (h : WellFormed s) where
     unset = λ e. (h .unset e .0, h .unset e .1);
   }
 
-  pub all-ahead : (k : Chain) → AllAhead k (s .clock) (chainOf k s)
+  all-ahead : (k : Chain) → AllAhead k (s .clock) (chainOf k s)
   all-ahead ByTicks = h .ticks
   all-ahead ByDate =
       cases (s .clock .isSet)
       (λ e. all-map (λ w p. (e, p .0, p .1)) (s .dated) (h .dates))
       (λ e. subst (AllAhead ByDate (s .clock)) (sym (h .unset e .2)) tt)
 
-pub formed : (s : State) → Chained s → 1 ≤ length (s .slots) → ClockFormed (s .clock) → ((i : ℕ) → Shape (slotAt (s .slots) i))
+formed : (s : State) → Chained s → 1 ≤ length (s .slots) → ClockFormed (s .clock) → ((i : ℕ) → Shape (slotAt (s .slots) i))
     → AllAhead ByTicks (s .clock) (s .ticking) → AllAhead ByDate (s .clock) (s .dated) → WellFormed s
 formed s chained some clock shape ticks dates = record {
   chained = chained;
@@ -79,7 +79,7 @@ formed s chained some clock shape ticks dates = record {
     no-dates [] e p = refl
     no-dates (w ∷ ws) e p = clash (sym (p .0 .0) ∙ e)
 
-pub formed-rechain : (k : Chain) (s : State) (slots : List Slot) (l : List Link)
+formed-rechain : (k : Chain) (s : State) (slots : List Slot) (l : List Link)
     → Chained (rechain k s slots l) → 1 ≤ length slots → ClockFormed (s .clock) → ((i : ℕ) → Shape (slotAt slots i)) → AllAhead k (s .clock) l
     → AllAhead (other k) (s .clock) (chainOf (other k) s) → WellFormed (rechain k s slots l)
 formed-rechain ByTicks s slots l chained some clock shape own rest = formed (rechain ByTicks s slots l) chained some clock shape own rest
@@ -105,19 +105,19 @@ module _ (s : State) (h : WellFormed s) where
   ahead-without : (k : Chain) (i : ℕ) → AllAhead k (s .clock) (without i (chainOf k s))
   ahead-without k i = all-keep (λ w. Ahead k (s .clock) (w .wait)) (λ w. not (eqb (w .slot) i)) (chainOf k s) (all-ahead s h k)
 
-  pub formed-stored : (i : ℕ) (x : Slot) → 0 < i → i ≤ length (s .slots) → slotAt (s .slots) i .kind ≡ 0
+  formed-stored : (i : ℕ) (x : Slot) → 0 < i → i ≤ length (s .slots) → slotAt (s .slots) i .kind ≡ 0
       → ((k : Chain) → waitsIn k (x .kind) ≡ false) → Shape x → WellFormed (stored s i x)
   formed-stored i x low high e n hx =
       formed (stored s i x) (chained-stored s (h .chained) i x low high e n) (some-put i x) (clock-formed s h) (shape-put i x hx)
       (all-ahead s h ByTicks) (all-ahead s h ByDate)
 
-  pub formed-stopped : (i : ℕ) (x : Slot) → 0 < i → i ≤ length (s .slots)
+  formed-stopped : (i : ℕ) (x : Slot) → 0 < i → i ≤ length (s .slots)
       → ((k : Chain) → waitsIn k (x .kind) ≡ false) → Shape x → WellFormed (stopped s i x)
   formed-stopped i x low high n hx =
       formed (stopped s i x) (chained-stopped s (h .chained) i x low high n) (some-put i x) (clock-formed s h) (shape-put i x hx)
       (ahead-without ByTicks i) (ahead-without ByDate i)
 
-  pub formed-started : (k : Chain) (i wait interval r u : ℕ) → 0 < i → i ≤ length (s .slots) → 0 < slotAt (s .slots) i .name → 0 < r
+  formed-started : (k : Chain) (i wait interval r u : ℕ) → 0 < i → i ≤ length (s .slots) → 0 < slotAt (s .slots) i .name → 0 < r
       → Within k wait interval → Interval k interval → Ahead k (s .clock) wait → WellFormed (started k s i wait interval r u)
   formed-started k i wait interval r u low high name routine within last ahead =
       let x : Slot = waitingAs k (slotAt (s .slots) i) interval r u in
@@ -132,7 +132,7 @@ module _ (s : State) (h : WellFormed s) where
 -- ---- timers fired
 
 -- dated timers at or before the clock's second fire: the others are after it
-pub formed-fired : (s : State) → Chained s → 1 ≤ length (s .slots) → ClockFormed (s .clock) → ((i : ℕ) → Shape (slotAt (s .slots) i))
+formed-fired : (s : State) → Chained s → 1 ≤ length (s .slots) → ClockFormed (s .clock) → ((i : ℕ) → Shape (slotAt (s .slots) i))
     → AllAhead ByTicks (s .clock) (s .ticking) → All (λ w. (s .clock .isSet ≡ true) × (w .wait ≤ lastSecond)) (s .dated)
     → WellFormed (fire ByDate (s .clock .second) s)
 formed-fired s chained some clock shape ticks dates =
@@ -145,7 +145,7 @@ formed-fired s chained some clock shape ticks dates =
     (all-zip (λ w. after w ≡ true) (λ w. (s .clock .isSet ≡ true) × (w .wait ≤ lastSecond)) later
     (all-passed after (s .dated)) (all-keep (λ w. (s .clock .isSet ≡ true) × (w .wait ≤ lastSecond)) after (s .dated) dates)))
 
-pub step-formed : (c : Clock) → ClockFormed c → ClockFormed (clockStep c)
+step-formed : (c : Clock) → ClockFormed c → ClockFormed (clockStep c)
 step-formed c h = record {
   per-low = omega (arith, clock-perSecond c, h .per-low);
   per-high = omega (arith, clock-perSecond c, h .per-high);
@@ -155,7 +155,7 @@ step-formed c h = record {
 }
 
 module _ (s : State) (h : WellFormed s) where
-  pub formed-ticked : (list : List ℕ) → WellFormed (effect s (tick list) .state)
+  formed-ticked : (list : List ℕ) → WellFormed (effect s (tick list) .state)
   formed-ticked list =
       let near = nearer s in
       let clock = clockStep (s .clock) in
@@ -167,7 +167,7 @@ module _ (s : State) (h : WellFormed s) where
       (all-map (λ w p. ltb-true 0 (w .wait) p) (keep (λ w. ltb 0 (w .wait)) (near .ticking)) (all-passed (λ w. ltb 0 (w .wait)) (near .ticking)))
       (all-map (λ w p. (clock-isSet (s .clock) ∙ p .0, p .2)) (s .dated) (all-ahead s h ByDate))
 
-  pub formed-clock-set : (second : ℕ) → second ≤ lastSecond → WellFormed (fire ByDate second (reclock s (clockAt (s .clock) second 0)))
+  formed-clock-set : (second : ℕ) → second ≤ lastSecond → WellFormed (fire ByDate second (reclock s (clockAt (s .clock) second 0)))
   formed-clock-set second last =
       let clock = clockAt (s .clock) second 0 in
       formed-fired (reclock s clock) (chained-reclock s clock (h .chained)) (h .some-slot)

@@ -135,7 +135,7 @@ module _ {A : Type 0} where
       rw e ((omega arith, all-map (λ z g. omega arith) ys (h .0)), h))
 
   -- a later element comes first only where its number is smaller than all
-  pub place-first : (key : A → ℕ) (x : A) (l : List A) → All (λ y. key x < key y) l → place key x l ≡ x ∷ l
+  place-first : (key : A → ℕ) (x : A) (l : List A) → All (λ y. key x < key y) l → place key x l ≡ x ∷ l
   place-first key x [] h = refl
   place-first key x (y ∷ ys) h = rw (lt-leb (key y) (key x) (h .0))
 

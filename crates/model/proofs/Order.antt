@@ -24,14 +24,14 @@ module _ {A : Type 0} where
 
   -- ---- `place` and `order`
 
-  pub sorted-orderOn : (key : A → ℕ) (acc l : List A) → Sorted key acc → Sorted key (orderOn key acc l)
+  sorted-orderOn : (key : A → ℕ) (acc l : List A) → Sorted key acc → Sorted key (orderOn key acc l)
   sorted-orderOn key acc [] h = h
   sorted-orderOn key acc (x ∷ xs) h = sorted-orderOn key (place key x acc) xs (sorted-place key x acc h)
 
-  pub sorted-order : (key : A → ℕ) (l : List A) → Sorted key (order key l)
+  sorted-order : (key : A → ℕ) (l : List A) → Sorted key (order key l)
   sorted-order key l = sorted-orderOn key [] l tt
 
-  pub keep-orderOn : (key : A → ℕ) (p : A → Bool) (acc l : List A) → Sorted key acc
+  keep-orderOn : (key : A → ℕ) (p : A → Bool) (acc l : List A) → Sorted key acc
       → keep p (orderOn key acc l) ≡ orderOn key (keep p acc) (keep p l)
   keep-orderOn key p acc [] h = refl
   keep-orderOn key p acc (x ∷ xs) h =
@@ -45,7 +45,7 @@ module _ {A : Type 0} where
   orderOn-append key acc [] m = refl
   orderOn-append key acc (y ∷ ys) m = orderOn-append key (place key y acc) ys m
 
-  pub orderOn-flat : (key : A → ℕ) (k : ℕ) (acc l : List A) → All (λ y. key y ≡ k) acc → All (λ y. key y ≡ k) l → orderOn key acc l ≡ acc ++ l
+  orderOn-flat : (key : A → ℕ) (k : ℕ) (acc l : List A) → All (λ y. key y ≡ k) acc → All (λ y. key y ≡ k) l → orderOn key acc l ≡ acc ++ l
   orderOn-flat key k acc [] h g = sym (append-nil acc)
   orderOn-flat key k acc (x ∷ xs) h g =
       let flat : All (λ y. key y ≤ key x) acc = all-map (λ y e. omega (arith, e, g .0)) acc h in

@@ -24,7 +24,7 @@ abbrev pub noRule : Refusal
 noRule = record { number = 0; given = false }
 
 -- no rule's number is 0
-abbrev pub numbered : List Refusal → Bool
+abbrev numbered : List Refusal → Bool
 numbered rs = every (λ r. not (eqb (r .number) 0)) rs
 
 first-passes : (r : Refusal) (rs : List Refusal) → numbered (r ∷ rs) ≡ true → firstOf (r ∷ rs) ≡ 0 → r .given ≡ false
@@ -33,7 +33,7 @@ first-passes r rs n e =
     cases (r .given) (λ f. absurd (not-zero (rw f at e))) (λ f. f)
 
 -- rule k, counted from 0, does not apply
-pub passes : (rs : List Refusal) → numbered rs ≡ true → firstOf rs ≡ 0 → (k : ℕ) → getD rs k noRule .given ≡ false
+passes : (rs : List Refusal) → numbered rs ≡ true → firstOf rs ≡ 0 → (k : ℕ) → getD rs k noRule .given ≡ false
 passes [] n e k = refl
 passes (r ∷ rs) n e zero = first-passes r rs n e
 passes (r ∷ rs) n e (suc k) = passes rs (both (not (eqb (r .number) 0)) (numbered rs) n .1) (rw (first-passes r rs n e) at e) k
@@ -157,7 +157,7 @@ module _ (unsound : Bool) (s : State) where
   all-numbered getClock = refl
 
   -- rule k of the call does not apply
-  pub not-refused : (c : Call) → firstOf (refusals unsound s c) ≡ 0 → (k : ℕ) → getD (refusals unsound s c) k noRule .given ≡ false
+  not-refused : (c : Call) → firstOf (refusals unsound s c) ≡ 0 → (k : ℕ) → getD (refusals unsound s c) k noRule .given ≡ false
   not-refused c e = passes (refusals unsound s c) (all-numbered c) e
 
   long-enough : (list : List ℕ) → isShort s list ≡ false → LongEnough s list

@@ -41,7 +41,7 @@ abbrev showing : Link → Says → Waiting
 showing w m = record { shows = record { id = idBase + w .slot; routine = m .routine; userData = m .userData }; wait = w .wait }
 
 -- it depends only on the routines and the data
-pub shown-says : (sl sl′ : List Slot) → ((j : ℕ) → says (slotAt sl′ j) ≡ says (slotAt sl j)) → (l : List Link) → map (shown sl′) l ≡ map (shown sl) l
+shown-says : (sl sl′ : List Slot) → ((j : ℕ) → says (slotAt sl′ j) ≡ says (slotAt sl j)) → (l : List Link) → map (shown sl′) l ≡ map (shown sl) l
 shown-says sl sl′ h l = map-on (shown sl′) (shown sl) l (all (λ w. shown sl′ w ≡ shown sl w) (λ w. ap (showing w) (h (w .slot))) l)
 
 says-memo : (x y : Slot) → memo x ≡ memo y → says x ≡ says y
@@ -283,7 +283,7 @@ module _ (s : State) (A h : List Event) (v : Agrees s A h) (e : Event) (quiet : 
         → All (λ w. dueNow ByDate e (reverseAux A []) (shown (s .slots) w) ≡ leb (w .wait) d) l
     due-is l c = all-map (λ w p. ap₂ (λ (b : Bool) (g : List Event). b && past (w .wait) (e ∷ g)) moving (v .back) ∙ p) l c
 
-    pub dated-fires : map (listed (s .slots)) (keep (λ w. leb (w .wait) d) (s .dated))
+    dated-fires : map (listed (s .slots)) (keep (λ w. leb (w .wait) d) (s .dated))
         ≡ map (λ w. w .shows) (keep (dueNow ByDate e (reverseAux A [])) (chainFrom ByDate A))
     dated-fires =
         sym (ap (λ (l : List Waiting). map (λ w. w .shows) (keep (dueNow ByDate e (reverseAux A [])) l)) (sym (v .chain ByDate))
@@ -291,7 +291,7 @@ module _ (s : State) (A h : List Event) (v : Agrees s A h) (e : Event) (quiet : 
         ∙ ap (map (shown (s .slots))) (keep-on (λ w. dueNow ByDate e (reverseAux A []) (shown (s .slots) w)) (λ w. leb (w .wait) d) (s .dated) (due-is (s .dated) cut)))
         ∙ map-map (λ w. w .shows) (shown (s .slots)) (keep (λ w. leb (w .wait) d) (s .dated)))
 
-    pub dated-left : map (shown (s .slots)) (keep (λ w. ltb d (w .wait)) (s .dated)) ≡ chainFrom ByDate (A ++ (e ∷ []))
+    dated-left : map (shown (s .slots)) (keep (λ w. ltb d (w .wait)) (s .dated)) ≡ chainFrom ByDate (A ++ (e ∷ []))
     dated-left =
         sym (chain-other ByDate A e none-fresh
         ∙ map-same (λ w. w) (λ w. refl) (keep left (chainFrom ByDate A))

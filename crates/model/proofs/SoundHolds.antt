@@ -210,7 +210,7 @@ followed k t e =
           ∙ eqb-true (count (λ x. eqb x j) l) (cond (waitsIn k (field t 0 j)) 1 0) (up-at meets 1 n (at 2) j a (omega arith));
     }
 
-pub read-chain : (t : List ℕ) (k : Chain) → chainOf k (read t) ≡ links k t
+read-chain : (t : List ℕ) (k : Chain) → chainOf k (read t) ≡ links k t
 read-chain t ByTicks = refl
 read-chain t ByDate = refl
 

@@ -29,7 +29,7 @@ length-slots : (s : State) (i : ℕ) (xs : List Slot) (rest : List ℕ) → leng
 length-slots s i [] rest = omega arith
 length-slots s i (x ∷ xs) rest = let ih = length-slots s (suc i) xs rest in omega arith
 
-pub length-write : (s : State) (rest : List ℕ) → length (write s rest) ≡ 10 + 8 * length (s .slots) + length rest
+length-write : (s : State) (rest : List ℕ) → length (write s rest) ≡ 10 + 8 * length (s .slots) + length rest
 length-write s rest = let e = length-slots s 1 (s .slots) rest in omega arith
 
 drop-slots : (s : State) (i : ℕ) (xs : List Slot) (rest : List ℕ) → drop (8 * length xs) (allSlots s i xs rest) ≡ rest
@@ -124,7 +124,7 @@ pub link-field : (k : Chain) (t : List ℕ) (p : ℕ) → 0 < p → word t (link
 link-field k t zero q = absurd (omega arith)
 link-field k t (suc p) q = refl
 
-pub link-next : (c : List Link) (p : ℕ) → 0 < p → linkIn c p ≡ nextIn c p
+link-next : (c : List Link) (p : ℕ) → 0 < p → linkIn c p ≡ nextIn c p
 link-next c zero q = absurd (omega arith)
 link-next c (suc p) q = refl
 
@@ -150,15 +150,15 @@ pub record Parts (t : List ℕ) (s : State) : Type 0 where
 pub absent : (w : Link) (ws : List Link) (i : ℕ) → timesIn (w ∷ ws) i ≡ 0 → (eqb (w .slot) i ≡ false) × (timesIn ws i ≡ 0)
 absent w ws i e = cases (eqb (w .slot) i) (λ f. absurd (let z : suc (timesIn ws i) ≡ 0 = rw f at e in omega arith)) (λ f. (f, rw f at e))
 
-pub none-next : (c : List Link) (i : ℕ) → timesIn c i ≡ 0 → nextIn c i ≡ 0
+none-next : (c : List Link) (i : ℕ) → timesIn c i ≡ 0 → nextIn c i ≡ 0
 none-next [] i e = refl
 none-next (w ∷ ws) i e = let a = absent w ws i e in rw (a .0) (none-next ws i (a .1))
 
-pub none-previous : (p : ℕ) (c : List Link) (i : ℕ) → timesIn c i ≡ 0 → previousIn p c i ≡ 0
+none-previous : (p : ℕ) (c : List Link) (i : ℕ) → timesIn c i ≡ 0 → previousIn p c i ≡ 0
 none-previous p [] i e = refl
 none-previous p (w ∷ ws) i e = let a = absent w ws i e in rw (a .0) (none-previous (w .slot) ws i (a .1))
 
-pub none-wait : (k : Chain) (b : ℕ) (c : List Link) (i : ℕ) → timesIn c i ≡ 0 → waitIn k b c i ≡ 0
+none-wait : (k : Chain) (b : ℕ) (c : List Link) (i : ℕ) → timesIn c i ≡ 0 → waitIn k b c i ≡ 0
 none-wait k b [] i e = refl
 none-wait k b (w ∷ ws) i e = let a = absent w ws i e in rw (a .0) (none-wait k (w .wait) ws i (a .1))
 

@@ -18,7 +18,7 @@ use Rattle.model.proofs.WellFormed.{timesIn, Chained}
 use Rattle.model.proofs.Chains.{times-closer, times-without, times-other, without-none, other, idle-not-waiting, once, once-either}
 use Rattle.model.proofs.Idled.{among, at-idleAll}
 
-pub sorted-closer : (l : List Link) → Sorted (λ w. w .wait) l → Sorted (λ w. w .wait) (map closer l)
+sorted-closer : (l : List Link) → Sorted (λ w. w .wait) l → Sorted (λ w. w .wait) (map closer l)
 sorted-closer [] h = tt
 sorted-closer (x ∷ xs) h =
     (all-mapped closer (λ y. x .wait - 1 ≤ y .wait) xs (all-map (λ y p. omega arith) xs (h .0)), sorted-closer xs (h .1))
@@ -30,20 +30,20 @@ abbrev pub Within : Chain → ℕ → ℕ → Type 0
 Within ByTicks wait interval = wait ≤ interval
 Within ByDate wait interval = Unit {0}
 
-abbrev pub Fits : Chain → List Slot → Link → Type 0
+abbrev Fits : Chain → List Slot → Link → Type 0
 Fits k slots w = Within k (w .wait) (slotAt slots (w .slot) .interval)
 
 -- the links l are in order as chain k of a state with these slots
-pub record Ordered (k : Chain) (slots : List Slot) (l : List Link) : Type 0 where
-  pub meets : (i : ℕ) → timesIn l i ≡ cond (waitsIn k (slotAt slots i .kind)) 1 0
-  pub rises : Sorted (λ w. w .wait) l
-  pub within : All (Fits k slots) l
+record Ordered (k : Chain) (slots : List Slot) (l : List Link) : Type 0 where
+  meets : (i : ℕ) → timesIn l i ≡ cond (waitsIn k (slotAt slots i .kind)) 1 0
+  rises : Sorted (λ w. w .wait) l
+  within : All (Fits k slots) l
 
-pub ordered : (s : State) → Chained s → (k : Chain) → Ordered k (s .slots) (chainOf k s)
+ordered : (s : State) → Chained s → (k : Chain) → Ordered k (s .slots) (chainOf k s)
 ordered s h ByTicks = record { meets = h .meets ByTicks; rises = h .rises ByTicks; within = h .bounded }
 ordered s h ByDate = record { meets = h .meets ByDate; rises = h .rises ByDate; within = all (λ w. Unit {0}) (λ w. tt) (s .dated) }
 
-pub chained : (s : State) → length (s .slots) ≤ 255 → Ordered ByTicks (s .slots) (s .ticking) → Ordered ByDate (s .slots) (s .dated) → Chained s
+chained : (s : State) → length (s .slots) ≤ 255 → Ordered ByTicks (s .slots) (s .ticking) → Ordered ByDate (s .slots) (s .dated) → Chained s
 chained s few t d = record { few = few; meets = meets-in; rises = rises-in; bounded = t .within }
   where
     meets-in : (k : Chain) (i : ℕ) → timesIn (chainOf k s) i ≡ cond (waitsIn k (slotAt (s .slots) i .kind)) 1 0
@@ -55,7 +55,7 @@ chained s few t d = record { few = few; meets = meets-in; rises = rises-in; boun
     rises-in ByDate = d .rises
 
 module _ (s : State) (slots : List Slot) (l : List Link) where
-  pub chained-rechain : (k : Chain) → length slots ≤ 255 → Ordered k slots l → Ordered (other k) slots (chainOf (other k) s) → Chained (rechain k s slots l)
+  chained-rechain : (k : Chain) → length slots ≤ 255 → Ordered k slots l → Ordered (other k) slots (chainOf (other k) s) → Chained (rechain k s slots l)
   chained-rechain ByTicks few own rest = chained (rechain ByTicks s slots l) few own rest
   chained-rechain ByDate few own rest = chained (rechain ByDate s slots l) few rest own
 
@@ -90,7 +90,7 @@ module _ (k : Chain) (slots : List Slot) (l : List Link) (h : Ordered k slots l)
       all-map (λ (w : Link) p. rw (at-other slots i (w .slot) x (eqb-false (w .slot) i (not-true (eqb (w .slot) i) (p .0)))) (p .1)) (without i l)
       (all-zip (λ w. others w ≡ true) (Fits k slots) (without i l) (all-passed others l) (all-keep (Fits k slots) others l (h .within)))
 
-  pub ordered-cut : (i : ℕ) (x : Slot) → 0 < i → i ≤ length slots → waitsIn k (x .kind) ≡ false → Ordered k (putAt slots i x) (without i l)
+  ordered-cut : (i : ℕ) (x : Slot) → 0 < i → i ≤ length slots → waitsIn k (x .kind) ≡ false → Ordered k (putAt slots i x) (without i l)
   ordered-cut i x low high e = record {
     meets = put-at (λ j y. timesIn (without i l) j ≡ cond (waitsIn k (y .kind)) 1 0) slots i x low high
         (times-without i l ∙ ap (λ (b : Bool). cond b 1 0) (sym e)) (λ j f. times-other i j l f ∙ h .meets j);
@@ -98,7 +98,7 @@ module _ (k : Chain) (slots : List Slot) (l : List Link) (h : Ordered k slots l)
     within = within-put i x;
   }
 
-  pub ordered-place : (i wait : ℕ) (x : Slot) → 0 < i → i ≤ length slots → x .kind ≡ waitingKind k → Within k wait (x .interval)
+  ordered-place : (i wait : ℕ) (x : Slot) → 0 < i → i ≤ length slots → x .kind ≡ waitingKind k → Within k wait (x .interval)
       → Ordered k (putAt slots i x) (place (λ w. w .wait) (record { slot = i; wait = wait }) (without i l))
   ordered-place i wait x low high e f =
       let new : Link = record { slot = i; wait = wait } in
@@ -114,13 +114,13 @@ module _ (k : Chain) (slots : List Slot) (l : List Link) (h : Ordered k slots l)
             (rw (at-same slots i x low high) f) (within-put i x);
       }
 
-  pub ordered-put : (i : ℕ) (x : Slot) → 0 < i → i ≤ length slots → waitsIn k (slotAt slots i .kind) ≡ false → waitsIn k (x .kind) ≡ false
+  ordered-put : (i : ℕ) (x : Slot) → 0 < i → i ≤ length slots → waitsIn k (slotAt slots i .kind) ≡ false → waitsIn k (x .kind) ≡ false
       → Ordered k (putAt slots i x) l
   ordered-put i x low high e f =
       subst (Ordered k (putAt slots i x)) (without-none i l (h .meets i ∙ ap (λ (b : Bool). cond b 1 0) e)) (ordered-cut i x low high f)
 
   -- the timers of ws stop; the links of l that are left are the rest
-  pub ordered-idle : (ws rest : List Link)
+  ordered-idle : (ws rest : List Link)
       → ((j : ℕ) → among ws j ≡ true → timesIn rest j ≡ 0) → ((j : ℕ) → among ws j ≡ false → timesIn rest j ≡ timesIn l j)
       → Sorted (λ w. w .wait) rest → All (Fits k slots) rest → Ordered k (idleAll ws slots) rest
   ordered-idle ws rest gone stays r b = record {
@@ -132,7 +132,7 @@ module _ (k : Chain) (slots : List Slot) (l : List Link) (h : Ordered k slots l)
     within = all-map (λ w p. subst (Within k (w .wait)) (sym (ap (λ m. m .interval) (memo-idleAll ws slots (w .slot)))) p) rest b;
   }
 
-pub ordered-nearer : (slots : List Slot) (l : List Link) → Ordered ByTicks slots l → Ordered ByTicks slots (map closer l)
+ordered-nearer : (slots : List Slot) (l : List Link) → Ordered ByTicks slots l → Ordered ByTicks slots (map closer l)
 ordered-nearer slots l h = record {
   meets = λ i. times-closer i l ∙ h .meets i;
   rises = sorted-closer l (h .rises);
@@ -171,7 +171,7 @@ module _ (s : State) (h : Chained s) (i : ℕ) (x : Slot) (low : 0 < i) (high : 
       still : (k : Chain) → Ordered k (putAt (s .slots) i x) (chainOf k s)
       still k = ordered-put k (s .slots) (chainOf k s) (ordered s h k) i x low high (below-waiting k (slotAt (s .slots) i .kind) (omega arith)) (n k)
 
-  pub ordered-stopped : (k : Chain) → waitsIn k (x .kind) ≡ false → Ordered k (putAt (s .slots) i x) (chainOf k (stopped s i x))
+  ordered-stopped : (k : Chain) → waitsIn k (x .kind) ≡ false → Ordered k (putAt (s .slots) i x) (chainOf k (stopped s i x))
   ordered-stopped k n = rw (stopped-chain s i x k) (ordered-cut k (s .slots) (chainOf k s) (ordered s h k) i x low high n)
 
   pub chained-stopped : ((k : Chain) → waitsIn k (x .kind) ≡ false) → Chained (stopped s i x)
