@@ -9,6 +9,7 @@ use lib.ListN.{length}
 use lib.Dec.{eqb}
 use borrow.Author.Tests.{eqb-true, lt-leb}
 use Rattle.calendar.specs.Calendar.{secondsOf}
+use Rattle.calendar.proofs.Theorems.{seconds-in-range}
 use Rattle.model.specs.Lists.{keep}
 use Rattle.model.specs.Status.{firstOf}
 use Rattle.model.specs.Calls.{Call, layOut, create, ident, cancel, delete, fireAfter, fireWhen, reset, ticksLeft, tick, setClock, getClock}
@@ -18,7 +19,6 @@ use Rattle.model.specs.Directives.{refusals, lowestFree, unused, idled, 
 use Rattle.model.specs.History.{afterTicks, atDate, Start, Event, changes, nothing, lastStart, eventOf, isTick, moves, Placed, starts, fires, dueAt, inChain, entry}
 use Rattle.model.proofs.ListLaws.{clash, all, keep-none}
 use Rattle.model.proofs.Order.{order}
-use Rattle.model.proofs.CalendarLaws.{valid-seconds}
 use Rattle.model.proofs.WellFormed.{WellFormed}
 use Rattle.model.proofs.Slots.{memo-idled}
 use Rattle.model.proofs.Searches.{found}
@@ -63,7 +63,7 @@ module _ (s : State) (A h : List Event) (v : Agrees s A h) (f : WellFormed s) (u
       (λ b. lt-leb (x .interval) 0 (m .0)) (λ z. (m .0, refl)))
   agrees-step (ticksLeft id) e = on-nothing s A h v
   agrees-step (tick list) e = on-tick s A h v f list
-  agrees-step (setClock w list) e = on-set-clock s A h v f (secondsOf w) (valid-seconds w (passed unsound s (setClock w list) e .1)) list
+  agrees-step (setClock w list) e = on-set-clock s A h v f (secondsOf w) (seconds-in-range w (passed unsound s (setClock w list) e .1)) list
   agrees-step getClock e = on-nothing s A h v
 
   -- ---- what is listed
@@ -116,7 +116,7 @@ module _ (s : State) (A h : List Event) (v : Agrees s A h) (f : WellFormed s) (u
       go (tick list) e = both-due (eventOf h (tick list)) (map (listed (s .slots)) (effect s (tick list) .fired)) (tick-fires s A h v f list)
       go (setClock w list) e =
           both-due (eventOf h (setClock w list)) (map (listed (s .slots)) (effect s (setClock w list) .fired))
-          (set-clock-fires s A h v f (secondsOf w) (valid-seconds w (passed unsound s (setClock w list) e .1)) list)
+          (set-clock-fires s A h v f (secondsOf w) (seconds-in-range w (passed unsound s (setClock w list) e .1)) list)
       go getClock e = quiet nothing refl refl
 
 -- a tick and a set clock answer the number of those that fire

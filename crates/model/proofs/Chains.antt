@@ -105,6 +105,11 @@ waits-not-free k kind p e =
     positive ByTicks z = omega arith
     positive ByDate z = omega arith
 
+-- kinds below 4 wait in no chain
+pub below-waiting : (k : Chain) (kind : ℕ) → kind < 4 → waitsIn k kind ≡ false
+below-waiting ByTicks kind p = ne-eqb kind 4 (λ e. omega arith)
+below-waiting ByDate kind p = ne-eqb kind 5 (λ e. omega arith)
+
 pub idle-not-waiting : (k : Chain) (kind : ℕ) → waitsIn k (idleOf kind) ≡ false
 idle-not-waiting ByTicks kind =
     cases (waitsIn ByTicks kind) (λ e. rw e) (λ e. cases (waitsIn ByDate kind) (λ f. rw (e, f)) (λ f. rw (e, f) e))

@@ -23,10 +23,7 @@ pub each-at : {A : Type 0} (P : ℕ → A → Type 0) (d : A) (xs : List A) → 
 each-at P d xs h m p = each-from P d 0 xs h m m (omega arith) p
 
 -- every test of a list passes
-abbrev pub Passed : List Bool → Type 0
-Passed bs = Each (λ _ b. b ≡ true) 0 bs
-
-pub passed : (bs : List Bool) → Passed bs → allOf bs ≡ true
+pub passed : (bs : List Bool) → Each (λ _ b. b ≡ true) 0 bs → allOf bs ≡ true
 passed bs h = from 0 bs h
   where
     from : (n : ℕ) (cs : List Bool) → Each (λ _ b. b ≡ true) n cs → allOf cs ≡ true

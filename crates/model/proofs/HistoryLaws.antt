@@ -3,7 +3,7 @@
 use mathlib.Core.Path.{_≡_, refl, sym, ap, _∙_}
 use Prim.Native.Nat.{ℕ, _+_, _-_, _<_}
 use native.Mathlib.Omega.{arith}
-use mathlib.Core.Bool.{Bool, true, false, cond, not, _&&_, _||_}
+use mathlib.Core.Bool.{Bool, true, false, cond, not, _&&_, _||_, or-false, and-false, and-comm}
 use mathlib.Core.Option.{Option, none, some}
 use mathlib.Core.List.{List, [], _∷_, _++_, map, reverseAux, append-nil}
 use lib.Dec.{leb}
@@ -11,17 +11,13 @@ use borrow.Author.Tests.{leb-true, leb-false, le-leb, lt-leb, not-true}
 use Rattle.model.specs.Lists.{keep, All}
 use Rattle.model.specs.Kinds.{Chain, ByTicks, ByDate}
 use Rattle.model.specs.History.{Due, afterTicks, atDate, Start, Event, startIn, isTick, ticks, past, moves, reached, Placed, ends, placed, startsFrom, starts, dueWithin, wasDue, wasEnded, waits, also, fires, dueNumber, dueAt, isFor, inChain, entry, Waiting, remaining, waiting}
-use Rattle.model.proofs.ListLaws.{cases, clash, both, or-left, all-map, all-append, all-keep, all-passed, all-zip, keep-append, keep-and, keep-on, keep-map, any-snoc, count-snoc, count-back}
+use Rattle.model.proofs.ListLaws.{cases, clash, both, or-left, all, all-map, all-append, all-keep, all-passed, all-zip, keep-append, keep-and, keep-on, keep-map, any-snoc, count-snoc, count-back}
 use Rattle.model.proofs.Order.{order, orderOn, all-orderOn, keep-order, orderOn-append, map-orderOn}
 
 -- ---- a list with one event more
 
 reached-snoc : (d : ℕ) (b l : List Event) (e : Event) → reached d b (l ++ (e ∷ [])) ≡ (reached d b l || (moves e && past d (e ∷ reverseAux l b)))
 reached-snoc d b [] e = or-false (moves e && past d (e ∷ b))
-  where
-    or-false : (a : Bool) → (a || false) ≡ a
-    or-false true = refl
-    or-false false = refl
 reached-snoc d b (x ∷ xs) e =
     cases (moves x && past d (x ∷ b)) (λ f. rw f) (λ f. rw f (reached-snoc d (x ∷ b) xs e))
 
@@ -54,11 +50,7 @@ waits-also e g =
   where
     still : (a b d d′ : Bool) → (d ≡ true → d′ ≡ true) → (not (a || b) && not d′) ≡ ((not a && not d) && (not b && not d′))
     still true b d d′ h = refl
-    still false b true d′ h = rw (h refl) (none (not b))
-      where
-        none : (c : Bool) → (c && false) ≡ false
-        none true = refl
-        none false = refl
+    still false b true d′ h = rw (h refl) (and-false (not b))
     still false b false d′ h = refl
 
 -- ---- the starts that wait in a chain, in firing order
@@ -67,17 +59,10 @@ abbrev pub history : Chain → List Event → List Placed
 history k A = order dueAt (keep (inChain k) (keep waits (starts A)))
 
 keep-swap : {A : Type 0} (p q : A → Bool) (l : List A) → keep p (keep q l) ≡ keep q (keep p l)
-keep-swap p q l = keep-and p q l ∙ keep-on (λ x. q x && p x) (λ x. p x && q x) l (go l) ∙ sym (keep-and q p l)
-  where
-    swap : (a b : Bool) → (a && b) ≡ (b && a)
-    swap true true = refl
-    swap true false = refl
-    swap false true = refl
-    swap false false = refl
-
-    go : (l : List _) → All (λ x. (q x && p x) ≡ (p x && q x)) l
-    go [] = tt
-    go (x ∷ xs) = (swap (q x) (p x), go xs)
+keep-swap p q l =
+    keep-and p q l
+    ∙ keep-on (λ x. q x && p x) (λ x. p x && q x) l (all (λ x. (q x && p x) ≡ (p x && q x)) (λ x. and-comm (q x) (p x)) l)
+    ∙ sym (keep-and q p l)
 
 module _ (k : Chain) (A : List Event) (e : Event) where
   waits-snoc : keep waits (starts (A ++ (e ∷ []))) ≡ map (also e) (keep (stays e) (keep waits (starts A))) ++ keep waits (fresh (reverseAux A []) e)
@@ -86,11 +71,8 @@ module _ (k : Chain) (A : List Event) (e : Event) where
       ∙ keep-append waits (map (also e) (starts A)) (fresh (reverseAux A []) e)
       ∙ ap (λ (l : List Placed). l ++ keep waits (fresh (reverseAux A []) e))
       (keep-map (also e) waits (starts A)
-      ∙ ap (map (also e)) (keep-on (λ g. waits (also e g)) (λ g. waits g && stays e g) (starts A) (go (starts A)) ∙ sym (keep-and (stays e) waits (starts A))))
-    where
-      go : (l : List Placed) → All (λ g. waits (also e g) ≡ (waits g && stays e g)) l
-      go [] = tt
-      go (g ∷ gs) = (waits-also e g, go gs)
+      ∙ ap (map (also e)) (keep-on (λ g. waits (also e g)) (λ g. waits g && stays e g) (starts A)
+      (all (λ g. waits (also e g) ≡ (waits g && stays e g)) (waits-also e) (starts A)) ∙ sym (keep-and (stays e) waits (starts A))))
 
   -- one event more: those that stay, and the new one put into its place
   pub history-snoc : history k (A ++ (e ∷ []))

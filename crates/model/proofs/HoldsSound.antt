@@ -2,12 +2,13 @@
 -- Assumes nothing.
 use mathlib.Core.Path.{_≡_, refl, sym, ap, _∙_, subst}
 use Prim.Native.Nat.{ℕ, suc, _+_, _*_, _≤_, _<_}
+use native.Mathlib.Nat.{pos-of-ne-zero}
 use native.Mathlib.Omega.{arith}
 use mathlib.Core.Bool.{Bool, true, false, cond, not, _&&_, _||_}
 use mathlib.Core.List.{List, [], _∷_, map}
 use lib.ListN.{length, getD, length-map}
 use lib.Dec.{leb, ltb, eqb}
-use borrow.Author.Tests.{ltb-false, eqb-true, eqb-false, eq-eqb, ne-eqb, le-leb, lt-ltb, not-false}
+use borrow.Author.Tests.{ltb-false, eqb-true, eqb-false, eq-eqb, le-leb, lt-ltb, not-false}
 use Rattle.model.specs.Lists.{count, every, allUp, All, Sorted}
 use Rattle.model.specs.Kinds.{Chain, ByTicks, ByDate, waitsIn, lastByTicks}
 use Rattle.model.specs.State.{Slot, Link, State, chainOf, slotAt}
@@ -16,7 +17,7 @@ use Rattle.model.specs.Words.{first, word, field, headWord, along, slotF
 use Rattle.model.specs.Sound.{headerSound, unlinked, unstarted, slotSound, previousSound, chainSound, firstSound, ticksSound, rising, datesSound, sound}
 use Rattle.model.proofs.ListLaws.{cases, and-both, every-true, all-up, all-map, all-zip, all-mapped}
 use Rattle.model.proofs.WellFormed.{Shape, WellFormed, Holds}
-use Rattle.model.proofs.Chains.{InSlots, in-slots, fits}
+use Rattle.model.proofs.Chains.{InSlots, below-waiting, in-slots, fits}
 use Rattle.model.proofs.Each.{end, _&_, passed}
 use Rattle.model.proofs.Spelling.{headWords, holds-spelled, Loose, Parts, holds-parts, Linked, holds-linked}
 use Rattle.model.proofs.ReadBack.{count-slots, count-is, set-is, links-is, by-next}
@@ -35,7 +36,7 @@ slot-sound t i h loose =
     passed (slotTests t i kind) (
     le-leb kind 5 (h .kinds)
     & or-if (not (eqb kind 0)) (eqb (field t 1 i) 0) (λ e. eq-eqb (field t 1 i) 0 (h .nameless (eqb-true kind 0 (not-false (eqb kind 0) e))))
-    & or-if (eqb kind 0) (ltb 0 (field t 1 i)) (λ e. lt-ltb 0 (field t 1 i) (h .named (positive kind (eqb-false kind 0 e))))
+    & or-if (eqb kind 0) (ltb 0 (field t 1 i)) (λ e. lt-ltb 0 (field t 1 i) (h .named (pos-of-ne-zero (eqb-false kind 0 e))))
     & or-if (ltb 1 kind) (unstarted t i) (λ e.
     let b = h .blank (ltb-false 1 kind e) in
     passed (eqb (field t 2 i) 0 ∷ eqb (field t 4 i) 0 ∷ eqb (field t 5 i) 0 ∷ [])
@@ -47,9 +48,6 @@ slot-sound t i h loose =
     passed (eqb (field t 3 i) 0 ∷ eqb (field t 6 i) 0 ∷ eqb (field t 7 i) 0 ∷ [])
     (eq-eqb (field t 3 i) 0 (z .wait) & eq-eqb (field t 6 i) 0 (z .next) & eq-eqb (field t 7 i) 0 (z .previous) & end))
     & end)
-  where
-    positive : (n : ℕ) → (n ≡ 0 → ⊥) → 0 < n
-    positive n e = omega arith
 
 -- ---- a chain
 
@@ -66,11 +64,6 @@ first-passes (w ∷ ws) h = le-leb 1 (w .wait) (h .0)
 rises : (b : ℕ) (c : List Link) → All (λ w. b ≤ w .wait) c → Sorted (λ w. w .wait) c → rising b c ≡ true
 rises b [] h s = refl
 rises b (w ∷ ws) h s = and-both (leb b (w .wait)) (rising (w .wait) ws) (le-leb b (w .wait) (h .0)) (rises (w .wait) ws (s .0) (s .1))
-
--- a slot of a kind that does not wait is in no chain
-idle : (k : Chain) (kind : ℕ) → kind ≤ 3 → waitsIn k kind ≡ false
-idle ByTicks kind p = ne-eqb kind 4 (λ e. omega arith)
-idle ByDate kind p = ne-eqb kind 5 (λ e. omega arith)
 
 module _ (t : List ℕ) (s : State) (h : Holds t s) where
   parts : Parts t s
@@ -104,7 +97,7 @@ module _ (t : List ℕ) (s : State) (h : Holds t s) where
 
   loose : (i : ℕ) → 0 < i → i ≤ length (s .slots) → field t 0 i ≤ 3 → Loose t i
   loose i a b p = parts .loose i a b (λ k. h .chained .meets k i
-      ∙ ap (λ (x : Slot). cond (waitsIn k (x .kind)) 1 0) (sym (parts .slots i a b)) ∙ rw (idle k (field t 0 i) p))
+      ∙ ap (λ (x : Slot). cond (waitsIn k (x .kind)) 1 0) (sym (parts .slots i a b)) ∙ rw (below-waiting k (field t 0 i) (omega arith)))
 
   module _ (ok : WellFormed s) where
     header-sound : headerSound t ≡ true

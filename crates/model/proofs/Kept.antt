@@ -2,6 +2,7 @@
 -- the parts of its work (Steps), each written slot has its shape (Shapes), the clock its bounds (ClockSteps). Assumes nothing.
 use mathlib.Core.Path.{_≡_, refl, sym, _∙_, subst}
 use Prim.Native.Nat.{ℕ, _≤_, _<_, zero-le}
+use native.Mathlib.Nat.{pos-of-ne-zero}
 use native.Mathlib.Omega.{arith}
 use mathlib.Core.Bool.{Bool, true, false, not}
 use mathlib.Core.List.{List, [], _∷_}
@@ -9,6 +10,7 @@ use lib.ListN.{length, length-append}
 use lib.Dec.{leb, ltb, eqb}
 use borrow.Author.Tests.{ltb-true, eqb-true}
 use Rattle.calendar.specs.Calendar.{secondsOf, lastSecond}
+use Rattle.calendar.proofs.Theorems.{seconds-in-range}
 use Rattle.model.specs.Lists.{keep, place, All}
 use Rattle.model.specs.Status.{firstOf}
 use Rattle.model.specs.Calls.{Call, layOut, create, ident, cancel, delete, fireAfter, fireWhen, reset, ticksLeft, tick, setClock, getClock}
@@ -18,12 +20,11 @@ use Rattle.model.specs.Directives.{refusals, lowestFree, laidOut, stored
 use Rattle.model.proofs.ListLaws.{cases, clash, all-map, all-keep, all-passed, all-zip, all-place, length-keep}
 use Rattle.model.proofs.Slots.{put-any, length-put, length-idleAll, blank}
 use Rattle.model.proofs.WellFormed.{Chained, Shape, WellFormed}
-use Rattle.model.proofs.Chains.{other, idle-not-waiting, fit-both}
-use Rattle.model.proofs.CalendarLaws.{valid-seconds}
+use Rattle.model.proofs.Chains.{other, below-waiting, idle-not-waiting, fit-both}
 use Rattle.model.proofs.ClockSteps.{clock-isSet, clock-perSecond, clock-into, clock-last, clock-unset}
 use Rattle.model.proofs.Searches.{found}
 use Rattle.model.proofs.Shapes.{free-shape, unused-shape, Interval, waiting-shape, idle-shape, shape-idleAll, timed-started}
-use Rattle.model.proofs.Steps.{Within, below-waiting, stopped-chain, length-laid, length-stored, length-stopped, length-started, length-fire, chained-stored, chained-stopped, chained-started, chained-fire, chained-nearer, chained-reclock, chained-laid}
+use Rattle.model.proofs.Steps.{Within, stopped-chain, length-laid, length-stored, length-stopped, length-started, length-fire, chained-stored, chained-stopped, chained-started, chained-fire, chained-nearer, chained-reclock, chained-laid}
 use Rattle.model.proofs.Refused.{Named, passed, isLayOut}
 
 -- ---- the parts of well-formedness
@@ -177,10 +178,7 @@ module _ (s : State) (h : WellFormed s) where
   -- ---- every call
 
   has-name : (id : ℕ) → Named s id → 0 < slotAt (s .slots) (indexOf id) .name
-  has-name id is = h .shape (indexOf id) .named (positive (slotAt (s .slots) (indexOf id) .kind) (is .alive))
-    where
-      positive : (n : ℕ) → (n ≡ 0 → ⊥) → 0 < n
-      positive n e = omega arith
+  has-name id is = h .shape (indexOf id) .named (pos-of-ne-zero (is .alive))
 
   module _ (unsound : Bool) where
     pub kept : (c : Call) → firstOf (refusals unsound s c) ≡ 0 → WellFormed (effect s c .state)
@@ -208,7 +206,7 @@ module _ (s : State) (h : WellFormed s) where
         let p = passed unsound s (fireWhen id w r u) e in
         let is = p .names-one in
         formed-started s h ByDate (indexOf id) (secondsOf w) 0 r u (is .low) (is .high) (has-name id is) (p .routine) tt refl
-        (p .running, p .later, valid-seconds w (p .is-valid))
+        (p .running, p .later, seconds-in-range w (p .is-valid))
     kept (reset id) e =
         let p = passed unsound s (reset id) e in
         let is = p .0 in
@@ -218,7 +216,7 @@ module _ (s : State) (h : WellFormed s) where
         (h .shape (indexOf id) .used (timed-started (x .kind) (p .1))) (omega arith) some some
     kept (ticksLeft id) e = h
     kept (tick list) e = formed-ticked list
-    kept (setClock w list) e = formed-clock-set (secondsOf w) (valid-seconds w (passed unsound s (setClock w list) e .1))
+    kept (setClock w list) e = formed-clock-set (secondsOf w) (seconds-in-range w (passed unsound s (setClock w list) e .1))
     kept getClock e = h
 
 -- ---- what no call changes, and how many fire

@@ -3,7 +3,6 @@
 pub mod ListLaws
 pub mod Order
 pub mod Each
-pub mod CalendarLaws
 pub mod WellFormed
 pub mod Slots
 pub mod Chains

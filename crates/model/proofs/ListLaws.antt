@@ -4,10 +4,11 @@ use Prim.Native.Nat.{ℕ, zero, suc, _+_, _≤_, _<_}
 use native.Mathlib.Omega.{arith}
 use mathlib.Core.Bool.{Bool, true, false, cond, not, _&&_, _||_, or-false}
 use mathlib.Core.List.{List, [], _∷_, _++_, map, reverseAux}
-use lib.ListN.{length, getD}
+use lib.ListN.{length}
 use lib.Dec.{leb, eqb, ltb}
 use borrow.Author.Tests.{leb-true, leb-false, lt-leb, le-leb, le-ltb, lt-ltb, eqb-true, eqb-false}
 use Rattle.calendar.specs.Calendar.{allOf}
+pub use Rattle.calendar.proofs.Validity.{all-at}
 use Rattle.model.specs.Lists.{goesBehind, allUp, keep, any, every, count, place, All, Sorted}
 
 pub cases : {C : Type 0} (b : Bool) → (b ≡ true → C) → (b ≡ false → C) → C
@@ -45,12 +46,6 @@ not-leb a b = cases (leb a b) (λ e. le-ltb b a (leb-true a b e) ∙ ap not (sym
 pub all-true : (l : List Bool) → All (λ b. b ≡ true) l → allOf l ≡ true
 all-true [] h = refl
 all-true (b ∷ bs) h = and-both b (allOf bs) (h .0) (all-true bs (h .1))
-
-pub all-at : (bs : List Bool) → allOf bs ≡ true → (k : ℕ) → getD bs k true ≡ true
-all-at [] e k = refl
-all-at (true ∷ bs) e zero = refl
-all-at (true ∷ bs) e (suc k) = all-at bs e k
-all-at (false ∷ bs) e k = clash (sym e)
 
 pub all-up : (p : ℕ → Bool) (i n : ℕ) → ((j : ℕ) → i ≤ j → j < i + n → p j ≡ true) → allUp p i n ≡ true
 all-up p i zero h = refl

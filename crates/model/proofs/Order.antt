@@ -8,7 +8,7 @@ use mathlib.Core.List.{List, [], _∷_, _++_, map, append-assoc, append-nil}
 use lib.Dec.{leb, eqb}
 use borrow.Author.Tests.{eqb-true}
 use Rattle.model.specs.Lists.{keep, place, All, Sorted, InOrder}
-use Rattle.model.proofs.ListLaws.{cases, all-map, all-passed, all-place, sorted-place, keep-place, place-last, map-place}
+use Rattle.model.proofs.ListLaws.{cases, all, all-map, all-passed, all-place, sorted-place, keep-place, place-last, map-place}
 
 module _ {A : Type 0} where
   abbrev pub orderOn : (A → ℕ) → List A → List A → List A
@@ -66,8 +66,4 @@ module _ {A B : Type 0} where
   map-orderOn f key key′ h acc [] = refl
   map-orderOn f key key′ h acc (x ∷ xs) =
       map-orderOn f key key′ h (place key x acc) xs
-      ∙ rw (map-place f key key′ x acc (every acc))
-    where
-      every : (l : List A) → All (λ y. leb (key′ (f y)) (key′ (f x)) ≡ leb (key y) (key x)) l
-      every [] = tt
-      every (y ∷ ys) = (rw (h y, h x), every ys)
+      ∙ rw (map-place f key key′ x acc (all (λ y. leb (key′ (f y)) (key′ (f x)) ≡ leb (key y) (key x)) (λ y. rw (h y, h x)) acc))

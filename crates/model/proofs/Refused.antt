@@ -2,6 +2,7 @@
 -- a fact. Assumes nothing.
 use mathlib.Core.Path.{_≡_, refl, sym}
 use Prim.Native.Nat.{ℕ, zero, suc, _+_, _*_, _≤_, _<_}
+use native.Mathlib.Nat.{pos-of-ne-zero}
 use native.Mathlib.Omega.{arith}
 use mathlib.Core.Bool.{Bool, true, false, not, _&&_}
 use mathlib.Core.List.{List, [], _∷_}
@@ -124,7 +125,7 @@ Passed s (setClock w list) = LongEnough s list × (valid w ≡ true)
 Passed s getClock = s .clock .isSet ≡ true
 
 positive : (n : ℕ) → eqb n 0 ≡ false → 0 < n
-positive n e = let z = eqb-false n 0 e in omega arith
+positive n e = pos-of-ne-zero (eqb-false n 0 e)
 
 -- all calls but lay out want a sound table
 abbrev pub isLayOut : Call → Bool

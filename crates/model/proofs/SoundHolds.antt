@@ -17,7 +17,7 @@ use Rattle.model.specs.Words.{first, word, field, headWord, along, total
 use Rattle.model.specs.Sound.{headerSound, unlinked, unstarted, slotSound, previousSound, chainSound, firstSound, ticksSound, rising, datesSound, sound}
 use Rattle.model.proofs.ListLaws.{cases, both, or-else, all-at, up-at, every-all, all-map, all-zip}
 use Rattle.model.proofs.WellFormed.{timesIn, Chained, Shape, WellFormed, Holds}
-use Rattle.model.proofs.Chains.{InSlots}
+use Rattle.model.proofs.Chains.{InSlots, below-waiting}
 use Rattle.model.proofs.Each.{end, _&_, each-at}
 use Rattle.model.proofs.Spelling.{headWords, Lay, Loose, Parts, parts-holds, difference-total, Linked, linked-lay}
 use Rattle.model.proofs.Shapes.{free-shape}
@@ -214,10 +214,6 @@ read-chain : (t : List ℕ) (k : Chain) → chainOf k (read t) ≡ links k t
 read-chain t ByTicks = refl
 read-chain t ByDate = refl
 
-waits-free : (k : Chain) → waitsIn k 0 ≡ false
-waits-free ByTicks = refl
-waits-free ByDate = refl
-
 -- ---- a sound table
 
 abbrev pub bullets : List ℕ → List Bool
@@ -252,7 +248,7 @@ module _ (t : List ℕ) (ok : sound t ≡ true) where
 
   meets : (k : Chain) (i : ℕ) → timesIn (links k t) i ≡ cond (waitsIn k (slotAt (read t .slots) i .kind)) 1 0
   meets k = every-slot (λ i x. timesIn (links k t) i ≡ cond (waitsIn k (x .kind)) 1 0) t (chain-ok k .meets)
-      (λ i out. outside (word t 0) i (links k t) (chain-ok k .in-slots) out ∙ rw (waits-free k))
+      (λ i out. outside (word t 0) i (links k t) (chain-ok k .in-slots) out ∙ rw (below-waiting k 0 (omega arith)))
 
   within : All (λ w. w .wait ≤ slotAt (read t .slots) (w .slot) .interval) (links ByTicks t)
   within =

@@ -15,7 +15,7 @@ use Rattle.model.specs.Directives.{laidOut, stored, stopped, waitingAs, 
 use Rattle.model.proofs.ListLaws.{cases, all, all-map, all-keep, all-passed, all-zip, all-place, all-mapped, sorted-place, not-leb, count-place, any-some, any-none, sorted-keep, count-parts}
 use Rattle.model.proofs.Slots.{at-same, at-other, length-put, put-at, blank, memo-idleAll, length-idleAll}
 use Rattle.model.proofs.WellFormed.{timesIn, Chained}
-use Rattle.model.proofs.Chains.{times-closer, times-without, times-other, without-none, other, idle-not-waiting, once, once-either}
+use Rattle.model.proofs.Chains.{times-closer, times-without, times-other, without-none, other, below-waiting, idle-not-waiting, once, once-either}
 use Rattle.model.proofs.Idled.{among, at-idleAll}
 
 sorted-closer : (l : List Link) → Sorted (λ w. w .wait) l → Sorted (λ w. w .wait) (map closer l)
@@ -141,11 +141,7 @@ ordered-nearer slots l h = record {
 
 -- ---- stored, stopped, started
 
--- kinds below 4 are in no chain, and the waiting kinds in one
-pub below-waiting : (k : Chain) (kind : ℕ) → kind < 4 → waitsIn k kind ≡ false
-below-waiting ByTicks kind p = ne-eqb kind 4 (λ e. omega arith)
-below-waiting ByDate kind p = ne-eqb kind 5 (λ e. omega arith)
-
+-- the kind that waits in a chain does not wait in the other
 waits-apart : (k : Chain) → waitsIn (other k) (waitingKind k) ≡ false
 waits-apart ByTicks = refl
 waits-apart ByDate = refl
