@@ -22,9 +22,9 @@ use Rattle.model.proofs.Order.{order}
 use Rattle.model.proofs.WellFormed.{WellFormed}
 use Rattle.model.proofs.Slots.{memo-idled}
 use Rattle.model.proofs.Searches.{found}
-use Rattle.model.proofs.Refused.{passed}
+use Rattle.model.proofs.Refused.{accepted-facts}
 use Rattle.model.proofs.HistoryLaws.{dueNow}
-use Rattle.model.proofs.ChainLaws.{chainFrom, presses, not-due, chain-fires}
+use Rattle.model.proofs.ChainLaws.{chainFrom, bringsDue, not-due, chain-fires}
 use Rattle.model.proofs.Simulation.{beginning, Remembers, Agrees, on-nothing, on-stored, on-lay-out, on-stop, on-start, on-set-clock, set-clock-fires, on-tick, tick-fires}
 
 module _ (s : State) (A h : List Event) (v : Agrees s A h) (f : WellFormed s) (unsound : Bool) where
@@ -32,27 +32,27 @@ module _ (s : State) (A h : List Event) (v : Agrees s A h) (f : WellFormed s) (u
   agrees-step (layOut n t) e = on-lay-out s A h v (s .room) n t
   agrees-step (create name) e =
       let i = lowestFree s in
-      let p = passed unsound s (create name) e in
+      let p = accepted-facts unsound s (create name) e in
       let low = found (λ x. eqb (x .kind) 0) (s .slots) (p .1) in
       let blank = f .shape i .blank (omega (arith, eqb-true (slotAt (s .slots) i .kind) 0 (low .passes))) in
       on-stored s A h v i (unused name) (λ j. record { routine = sym (blank .1) j; userData = sym (blank .2) j }) refl
   agrees-step (ident name) e = on-nothing s A h v
   agrees-step (cancel id) e =
-      let p = passed unsound s (cancel id) e in
+      let p = accepted-facts unsound s (cancel id) e in
       let x = slotAt (s .slots) (indexOf id) in
       on-stop s A h v id (indexOf id) (p .is) (p .low) (p .high) (idled x) (subst (Remembers h (indexOf id)) (sym (memo-idled x)) (v .memory (indexOf id)))
   agrees-step (delete id) e =
-      let p = passed unsound s (delete id) e in on-stop s A h v id (indexOf id) (p .is) (p .low) (p .high) free (λ z. clash (sym z))
+      let p = accepted-facts unsound s (delete id) e in on-stop s A h v id (indexOf id) (p .is) (p .low) (p .high) free (λ z. clash (sym z))
   agrees-step (fireAfter id n r u) e =
-      let p = passed unsound s (fireAfter id n r u) e in
+      let p = accepted-facts unsound s (fireAfter id n r u) e in
       let q = p .names-one in
       on-start s A h v id (indexOf id) (q .is) (q .low) (q .high) ByTicks (afterTicks n) n r u refl (λ b. lt-leb n 0 (p .ticks)) (λ z. (p .ticks, refl))
   agrees-step (fireWhen id w r u) e =
-      let p = passed unsound s (fireWhen id w r u) e in
+      let p = accepted-facts unsound s (fireWhen id w r u) e in
       let q = p .names-one in
       on-start s A h v id (indexOf id) (q .is) (q .low) (q .high) ByDate (atDate (secondsOf w)) 0 r u refl (λ b. refl) (λ z. clash (sym z))
   agrees-step (reset id) e =
-      let p = passed unsound s (reset id) e in
+      let p = accepted-facts unsound s (reset id) e in
       let i = indexOf id in
       let x = slotAt (s .slots) i in
       let m = v .memory i (p .1) in
@@ -63,7 +63,7 @@ module _ (s : State) (A h : List Event) (v : Agrees s A h) (f : WellFormed s) (u
       (λ b. lt-leb (x .interval) 0 (m .0)) (λ z. (m .0, refl)))
   agrees-step (ticksLeft id) e = on-nothing s A h v
   agrees-step (tick list) e = on-tick s A h v f list
-  agrees-step (setClock w list) e = on-set-clock s A h v f (secondsOf w) (seconds-in-range w (passed unsound s (setClock w list) e .1)) list
+  agrees-step (setClock w list) e = on-set-clock s A h v f (secondsOf w) (seconds-in-range w (accepted-facts unsound s (setClock w list) e .1)) list
   agrees-step getClock e = on-nothing s A h v
 
   -- ---- what is listed
@@ -83,7 +83,7 @@ module _ (s : State) (A h : List Event) (v : Agrees s A h) (f : WellFormed s) (u
       ∙ ap (map (λ w. w .shows)) (keep-none (dueNow k e (reverseAux A [])) (chainFrom k A)
       (all (λ w. dueNow k e (reverseAux A []) w ≡ false) (λ w. not-due k e (calm k) (reverseAux A []) w) (chainFrom k A))))
     where
-      calm : (k : Chain) → presses k e ≡ false
+      calm : (k : Chain) → bringsDue k e ≡ false
       calm ByTicks = t
       calm ByDate = m
 
@@ -116,7 +116,7 @@ module _ (s : State) (A h : List Event) (v : Agrees s A h) (f : WellFormed s) (u
       go (tick list) e = both-due (eventOf h (tick list)) (map (listed (s .slots)) (effect s (tick list) .fired)) (tick-fires s A h v f list)
       go (setClock w list) e =
           both-due (eventOf h (setClock w list)) (map (listed (s .slots)) (effect s (setClock w list) .fired))
-          (set-clock-fires s A h v f (secondsOf w) (seconds-in-range w (passed unsound s (setClock w list) e .1)) list)
+          (set-clock-fires s A h v f (secondsOf w) (seconds-in-range w (accepted-facts unsound s (setClock w list) e .1)) list)
       go getClock e = quiet nothing refl refl
 
 -- a tick and a set clock answer the number of those that fire

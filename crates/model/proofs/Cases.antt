@@ -51,8 +51,8 @@ clocked = layOut 1 10 ∷ setClock (date 2000 1 1 0 0 0) nine ∷ create 1 ∷ [
 abbrev pub clockedLines : List (List ℕ)
 clockedLines = (0 ∷ 0 ∷ []) ∷ (0 ∷ 0 ∷ []) ∷ (0 ∷ 302055425 ∷ []) ∷ []
 
-abbrev pub cases : List Case
-cases =
+abbrev pub starredCases : List Case
+starredCases =
     map (λ c. day (c .0) (c .1)) dates.cases
     -- The session. Word 5 is 1; the waits are 5 and 0.
     ++ calls (replicate 34 0) opening openingLines []
@@ -91,6 +91,6 @@ cases =
     (1 ∷ 10 ∷ 0 ∷ 0 ∷ 0 ∷ 0 ∷ 0 ∷ 0 ∷ 0 ∷ 0 ∷ 1 ∷ 1 ∷ replicate 6 0)
     ∷ []
 
-pub starred : map computed cases ≡ cases
+pub starred : map computed starredCases ≡ starredCases
 unfolding monthsOf years valid secondsOf headerSound slotSound chainSound ticksSound datesSound sound statusOn outcome
 starred = refl

@@ -71,16 +71,16 @@ module _ (k : Chain) (A : List Event) (e : Event) where
 
 -- ---- an event at which nothing of a chain comes due
 
--- what makes timers of a chain due: ticks, or whatever moves the clock
-abbrev pub presses : Chain → Event → Bool
-presses ByTicks e = isTick e
-presses ByDate e = moves e
+-- the event can bring timers of the chain due: a tick those by ticks, whatever moves the clock those by date
+abbrev pub bringsDue : Chain → Event → Bool
+bringsDue ByTicks e = isTick e
+bringsDue ByDate e = moves e
 
-lowered-same : (k : Chain) (e : Event) → presses k e ≡ false → (w : Waiting) → lowered k e w ≡ w
+lowered-same : (k : Chain) (e : Event) → bringsDue k e ≡ false → (w : Waiting) → lowered k e w ≡ w
 lowered-same ByTicks e calm w = ap {B = Waiting} (λ (n : ℕ). record { shows = w .shows; wait = n }) (rw calm (omega arith))
 lowered-same ByDate e calm w = refl
 
-pub not-due : (k : Chain) (e : Event) → presses k e ≡ false → (h : List Event) (w : Waiting) → dueNow k e h w ≡ false
+pub not-due : (k : Chain) (e : Event) → bringsDue k e ≡ false → (h : List Event) (w : Waiting) → dueNow k e h w ≡ false
 not-due ByTicks e calm h w = rw calm
 not-due ByDate e calm h w = rw calm
 
@@ -88,7 +88,7 @@ pub map-same : (f : Waiting → Waiting) → ((w : Waiting) → f w ≡ w) → (
 map-same f h [] = refl
 map-same f h (w ∷ ws) = rw (h w, map-same f h ws)
 
-module _ (k : Chain) (e : Event) (calm : presses k e ≡ false) where
+module _ (k : Chain) (e : Event) (calm : bringsDue k e ≡ false) where
   only-ends : (h : List Event) (l : List Waiting) → map (lowered k e) (keep (remains k e h) l) ≡ keep (λ w. not (ends (w .shows .id) e)) l
   only-ends h l =
       map-same (lowered k e) (lowered-same k e calm) (keep (remains k e h) l)
@@ -109,7 +109,7 @@ module _ (k : Chain) (A : List Event) (id : ℕ) (s : Start) (here : isFor k (s 
   x : Placed
   x = record { begun = s; before = changes id (some s) ∷ reverseAux A []; after = [] }
 
-  calm : (k : Chain) → presses k (changes id (some s)) ≡ false
+  calm : (k : Chain) → bringsDue k (changes id (some s)) ≡ false
   calm ByTicks = refl
   calm ByDate = refl
 

@@ -61,12 +61,12 @@ abbrev pub InSlots : ℕ → Link → Type 0
 InSlots n w = (0 < w .slot) × (w .slot ≤ n)
 
 -- different slots are no more than there are
-pigeons : (n : ℕ) (l : List Link) → All (InSlots n) l → ((i : ℕ) → timesIn l i ≤ 1) → length l ≤ n
-pigeons zero [] h k = omega arith
-pigeons zero (w ∷ ws) h k = omega (arith, h .0 .0, h .0 .1)
-pigeons (suc n) l h k =
+no-more-than-slots : (n : ℕ) (l : List Link) → All (InSlots n) l → ((i : ℕ) → timesIn l i ≤ 1) → length l ≤ n
+no-more-than-slots zero [] h k = omega arith
+no-more-than-slots zero (w ∷ ws) h k = omega (arith, h .0 .0, h .0 .1)
+no-more-than-slots (suc n) l h k =
     let low : length (without (suc n) l) ≤ n =
-    pigeons n (without (suc n) l)
+    no-more-than-slots n (without (suc n) l)
     (all-map (λ w p. (p .0 .0, smaller (w .slot) (p .0 .1) (eqb-false (w .slot) (suc n) (not-true (eqb (w .slot) (suc n)) (p .1)))))
     (without (suc n) l)
     (all-zip (InSlots (suc n)) (λ w. not (eqb (w .slot) (suc n)) ≡ true) (without (suc n) l)
@@ -136,14 +136,14 @@ module _ (s : State) (h : Chained s) where
   in-slots k = all-map (λ w p. met-in-range k (w .slot) p) (chainOf k s) (met [] (chainOf k s))
 
   pub fits : (k : Chain) → length (chainOf k s) ≤ length (s .slots)
-  fits k = pigeons (length (s .slots)) (chainOf k s) (in-slots k) (once k)
+  fits k = no-more-than-slots (length (s .slots)) (chainOf k s) (in-slots k) (once k)
 
   -- both chains together have no more links than there are slots
   pub fit-both : length (s .ticking) + length (s .dated) ≤ length (s .slots)
   fit-both = omega (
     arith,
     length-append (s .ticking) (s .dated),
-    pigeons (length (s .slots)) (s .ticking ++ s .dated)
+    no-more-than-slots (length (s .slots)) (s .ticking ++ s .dated)
         (all-append (InSlots (length (s .slots))) (s .ticking) (s .dated) (in-slots ByTicks) (in-slots ByDate))
         (λ i. omega (arith, count-append (λ w. eqb (w .slot) i) (s .ticking) (s .dated), once-both i)),
   )

@@ -27,7 +27,7 @@ use Rattle.model.proofs.ReadBack.{slots-length, read-back, by-previous,
 use Rattle.model.proofs.SoundHolds.{sound-holds, sound-well-formed}
 use Rattle.model.proofs.HoldsSound.{well-formed-sound}
 use Rattle.model.proofs.Steps.{chained-laid, length-laid}
-use Rattle.model.proofs.Refused.{passed, isLayOut}
+use Rattle.model.proofs.Refused.{accepted-facts, isLayOut}
 use Rattle.model.proofs.Kept.{kept, laid-well-formed, effect-room, slots-kept, bound}
 use Rattle.model.proofs.ChainLaws.{chainFrom}
 use Rattle.model.proofs.HistoryLaws.{history}
@@ -36,7 +36,7 @@ use Rattle.model.proofs.Agreement.{agrees-step, lists-due, none-due, co
 use Rattle.model.proofs.OutcomeLaws.{status-is, outcome-accepted, outcome-refused, outcome-status}
 
 -- the table t is sound and its state agrees with the events es, of which h is the reverse
-record Good (t : List ℕ) (es h : List Event) : Type 0 where
+record SoundAndAgreeing (t : List ℕ) (es h : List Event) : Type 0 where
   is-sound : sound t ≡ true
   agrees : Agrees (read t) es h
 
@@ -44,7 +44,7 @@ record Good (t : List ℕ) (es h : List Event) : Type 0 where
 
 laid-holds : (w : List ℕ) (n t : ℕ) → firstOf (refusals (not (sound w)) (read w) (layOut n t)) ≡ 0 → Holds (over (laidOut (length w) n t) w) (laidOut (length w) n t)
 laid-holds w n t e =
-    let p = passed (not (sound w)) (read w) (layOut n t) e in
+    let p = accepted-facts (not (sound w)) (read w) (layOut n t) e in
     written-holds w (laidOut (length w) n t) (chained-laid (length w) n t (p .slots-high)) (omega (arith, length-laid (length w) n t, p .fits)) refl
 
 -- the table after an accepted call on a sound table holds what the call leaves
@@ -76,9 +76,9 @@ effect-holds t ok c e = go (isLayOut c) refl
 
 -- ---- one call more
 
-module _ (t : List ℕ) (es h : List Event) (g : Good t es h) (c : Call) where
-  good-step : statusOn t c ≡ 0 → Good (over (effect (read t) c .state) t) (es ++ (eventOf h c ∷ [])) (eventOf h c ∷ h)
-  good-step e =
+module _ (t : List ℕ) (es h : List Event) (g : SoundAndAgreeing t es h) (c : Call) where
+  kept-by-call : statusOn t c ≡ 0 → SoundAndAgreeing (over (effect (read t) c .state) t) (es ++ (eventOf h c ∷ [])) (eventOf h c ∷ h)
+  kept-by-call e =
       let st = sym (status-is t c) ∙ e in
       let s = effect (read t) c .state in
       let f = sound-well-formed t (g .is-sound) in
@@ -152,8 +152,8 @@ module _ (t : List ℕ) (es h : List Event) (g : Good t es h) (c : Call) where
 abbrev more : List Event → List ℕ → List Call → List Event
 more h t xs = eventsFrom h (acceptedIn t xs)
 
-run : (xs : List Call) (t : List ℕ) (es h : List Event) → Good t es h → Good (after t xs) (es ++ more h t xs) (reverseAux (more h t xs) h)
-run [] t es h g = subst (λ (l : List Event). Good t l h) (sym (append-nil es)) g
+run : (xs : List Call) (t : List ℕ) (es h : List Event) → SoundAndAgreeing t es h → SoundAndAgreeing (after t xs) (es ++ more h t xs) (reverseAux (more h t xs) h)
+run [] t es h g = subst (λ (l : List Event). SoundAndAgreeing t l h) (sym (append-nil es)) g
 run (c ∷ xs) t es h g =
     cases (eqb (statusOn t c) 0)
     (λ e.
@@ -161,35 +161,35 @@ run (c ∷ xs) t es h g =
     let o : outcome t c .table ≡ over (effect (read t) c .state) t = ap (λ (x : Outcome). x .table) (outcome-accepted t c z) in
     let b : eqb (outcome t c .status) 0 ≡ true = ap (λ (n : ℕ). eqb n 0) (outcome-status t c) ∙ e in
     let u = outcome t c .table in
-    let step : Good u (es ++ (eventOf h c ∷ [])) (eventOf h c ∷ h) = subst (λ (x : List ℕ). Good x (es ++ (eventOf h c ∷ [])) (eventOf h c ∷ h)) (sym o) (good-step t es h g c z) in
-    rw b (subst (λ (l : List Event). Good (after u xs) l (reverseAux (more (eventOf h c ∷ h) u xs) (eventOf h c ∷ h))) (append-assoc es (eventOf h c ∷ []) (more (eventOf h c ∷ h) u xs))
+    let step : SoundAndAgreeing u (es ++ (eventOf h c ∷ [])) (eventOf h c ∷ h) = subst (λ (x : List ℕ). SoundAndAgreeing x (es ++ (eventOf h c ∷ [])) (eventOf h c ∷ h)) (sym o) (kept-by-call t es h g c z) in
+    rw b (subst (λ (l : List Event). SoundAndAgreeing (after u xs) l (reverseAux (more (eventOf h c ∷ h) u xs) (eventOf h c ∷ h))) (append-assoc es (eventOf h c ∷ []) (more (eventOf h c ∷ h) u xs))
     (run xs u (es ++ (eventOf h c ∷ [])) (eventOf h c ∷ h) step)))
     (λ e.
     let o : outcome t c .table ≡ t = ap (λ (x : Outcome). x .table) (outcome-refused t c (eqb-false (statusOn t c) 0 e)) in
     let b : eqb (outcome t c .status) 0 ≡ false = ap (λ (n : ℕ). eqb n 0) (outcome-status t c) ∙ e in
-    rw b (run xs (outcome t c .table) es h (subst (λ (x : List ℕ). Good x es h) (sym o) g)))
+    rw b (run xs (outcome t c .table) es h (subst (λ (x : List ℕ). SoundAndAgreeing x es h) (sym o) g)))
 
 -- the table that a lay out leaves
-begins : (w : List ℕ) (n t : ℕ) → statusOn w (layOut n t) ≡ 0 → Good (outcome w (layOut n t) .table) (laidOutFor t ∷ []) (laidOutFor t ∷ [])
+begins : (w : List ℕ) (n t : ℕ) → statusOn w (layOut n t) ≡ 0 → SoundAndAgreeing (outcome w (layOut n t) .table) (laidOutFor t ∷ []) (laidOutFor t ∷ [])
 begins w n t e =
     let st = sym (status-is w (layOut n t)) ∙ e in
-    let p = passed (not (sound w)) (read w) (layOut n t) st in
+    let p = accepted-facts (not (sound w)) (read w) (layOut n t) st in
     let s = laidOut (length w) n t in
     let hold = laid-holds w n t st in
     let o : outcome w (layOut n t) .table ≡ over s w = ap (λ (x : Outcome). x .table) (outcome-accepted w (layOut n t) e) in
-    subst (λ (x : List ℕ). Good x (laidOutFor t ∷ []) (laidOutFor t ∷ [])) (sym o) (record {
+    subst (λ (x : List ℕ). SoundAndAgreeing x (laidOutFor t ∷ []) (laidOutFor t ∷ [])) (sym o) (record {
       is-sound = well-formed-sound (over s w) s hold (laid-well-formed (length w) n t (p .slots-low) (p .slots-high) (p .ticks-low) (p .ticks-high));
       agrees = subst (λ (x : State). Agrees x (laidOutFor t ∷ []) (laidOutFor t ∷ [])) (sym (read-back (over s w) s hold)) (agrees-laid (length w) n t);
     })
 
 -- the table and the events after an accepted lay out and any calls
-good-after : (w : List ℕ) (n t : ℕ) → outcome w (layOut n t) .status ≡ 0 → (xs : List Call)
-    → Good (after w (layOut n t ∷ xs)) (eventsAfter w (layOut n t ∷ xs)) (reverse (eventsAfter w (layOut n t ∷ xs)))
-good-after w n t e xs =
+after-calls : (w : List ℕ) (n t : ℕ) → outcome w (layOut n t) .status ≡ 0 → (xs : List Call)
+    → SoundAndAgreeing (after w (layOut n t ∷ xs)) (eventsAfter w (layOut n t ∷ xs)) (reverse (eventsAfter w (layOut n t ∷ xs)))
+after-calls w n t e xs =
     let t₀ = outcome w (layOut n t) .table in
     let h₀ : List Event = laidOutFor t ∷ [] in
     let g = run xs t₀ h₀ h₀ (begins w n t (sym (outcome-status w (layOut n t)) ∙ e)) in
-    subst (λ (cs : List Call). Good (after t₀ xs) (eventsFrom [] cs) (reverse (eventsFrom [] cs)))
+    subst (λ (cs : List Call). SoundAndAgreeing (after t₀ xs) (eventsFrom [] cs) (reverse (eventsFrom [] cs)))
     (ap (λ (b : Bool). cond b (layOut n t ∷ acceptedIn t₀ xs) (acceptedIn t₀ xs)) (sym (eq-eqb (outcome w (layOut n t) .status) 0 e))) g
 
 pub demand3 : Demand3
@@ -197,6 +197,6 @@ demand3 w n t e cs =
     let now : List Call → List ℕ = λ xs. after w (layOut n t ∷ xs) in
     let es : List Call → List Event = λ xs. eventsAfter w (layOut n t ∷ xs) in
     record {
-      standing = λ xs ys _. standing-now (now xs) (es xs) (reverse (es xs)) (good-after w n t e xs) (layOut n t);
-      answers = λ xs ys c _. answers-now (now xs) (es xs) (reverse (es xs)) (good-after w n t e xs) c;
+      standing = λ xs ys _. standing-now (now xs) (es xs) (reverse (es xs)) (after-calls w n t e xs) (layOut n t);
+      answers = λ xs ys c _. answers-now (now xs) (es xs) (reverse (es xs)) (after-calls w n t e xs) c;
     }

@@ -25,7 +25,7 @@ use Rattle.model.proofs.ClockSteps.{clock-isSet, clock-perSecond, clock
 use Rattle.model.proofs.Searches.{found}
 use Rattle.model.proofs.Shapes.{free-shape, unused-shape, Interval, waiting-shape, idle-shape, shape-idleAll, timed-started}
 use Rattle.model.proofs.Steps.{Within, stopped-chain, length-laid, length-stored, length-stopped, length-started, length-fire, chained-stored, chained-stopped, chained-started, chained-fire, chained-nearer, chained-reclock, chained-laid}
-use Rattle.model.proofs.Refused.{Named, passed, isLayOut}
+use Rattle.model.proofs.Refused.{Named, accepted-facts, isLayOut}
 
 -- ---- the parts of well-formedness
 
@@ -183,32 +183,32 @@ module _ (s : State) (h : WellFormed s) where
   module _ (unsound : Bool) where
     pub kept : (c : Call) → firstOf (refusals unsound s c) ≡ 0 → WellFormed (effect s c .state)
     kept (layOut n t) e =
-        let p = passed unsound s (layOut n t) e in
+        let p = accepted-facts unsound s (layOut n t) e in
         laid-well-formed (s .room) n t (p .slots-low) (p .slots-high) (p .ticks-low) (p .ticks-high)
     kept (create name) e =
-        let p = passed unsound s (create name) e in
+        let p = accepted-facts unsound s (create name) e in
         let at = found (λ x. eqb (x .kind) 0) (s .slots) (p .1) in
         formed-stored s h (lowestFree s) (unused name) (at .low) (at .high) (eqb-true (slotAt (s .slots) (lowestFree s) .kind) 0 (at .passes))
         (λ k. below-waiting k 1 (omega arith)) (unused-shape name (p .0))
     kept (ident name) e = h
     kept (cancel id) e =
-        let is = passed unsound s (cancel id) e in
+        let is = accepted-facts unsound s (cancel id) e in
         let x = slotAt (s .slots) (indexOf id) in
         formed-stopped s h (indexOf id) (idled x) (is .low) (is .high) (λ k. idle-not-waiting k (x .kind)) (idle-shape x (h .shape (indexOf id)))
     kept (delete id) e =
-        let is = passed unsound s (delete id) e in
+        let is = accepted-facts unsound s (delete id) e in
         formed-stopped s h (indexOf id) free (is .low) (is .high) (λ k. below-waiting k 0 (omega arith)) free-shape
     kept (fireAfter id n r u) e =
-        let p = passed unsound s (fireAfter id n r u) e in
+        let p = accepted-facts unsound s (fireAfter id n r u) e in
         let is = p .names-one in
         formed-started s h ByTicks (indexOf id) n n r u (is .low) (is .high) (has-name id is) (p .routine) (omega arith) (p .ticks) (p .ticks)
     kept (fireWhen id w r u) e =
-        let p = passed unsound s (fireWhen id w r u) e in
+        let p = accepted-facts unsound s (fireWhen id w r u) e in
         let is = p .names-one in
         formed-started s h ByDate (indexOf id) (secondsOf w) 0 r u (is .low) (is .high) (has-name id is) (p .routine) tt refl
         (p .running, p .later, seconds-in-range w (p .is-valid))
     kept (reset id) e =
-        let p = passed unsound s (reset id) e in
+        let p = accepted-facts unsound s (reset id) e in
         let is = p .0 in
         let x = slotAt (s .slots) (indexOf id) in
         let some = h .shape (indexOf id) .by-ticks (p .1) in
@@ -216,7 +216,7 @@ module _ (s : State) (h : WellFormed s) where
         (h .shape (indexOf id) .used (timed-started (x .kind) (p .1))) (omega arith) some some
     kept (ticksLeft id) e = h
     kept (tick list) e = formed-ticked list
-    kept (setClock w list) e = formed-clock-set (secondsOf w) (seconds-in-range w (passed unsound s (setClock w list) e .1))
+    kept (setClock w list) e = formed-clock-set (secondsOf w) (seconds-in-range w (accepted-facts unsound s (setClock w list) e .1))
     kept getClock e = h
 
 -- ---- what no call changes, and how many fire

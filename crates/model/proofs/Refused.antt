@@ -110,19 +110,20 @@ pub record StartsByDate (s : State) (id : ℕ) (w : WallTime) (r : ℕ) : Type 0
 abbrev pub LongEnough : State → List ℕ → Type 0
 LongEnough s list = 3 * length (s .slots) ≤ length list
 
-abbrev pub Passed : State → Call → Type 0
-Passed s (layOut n t) = LaysOut s n t
-Passed s (create name) = (0 < name) × (0 < lowestFree s)
-Passed s (ident name) = (0 < name) × (0 < lowestNamed s name)
-Passed s (cancel id) = Named s id
-Passed s (delete id) = Named s id
-Passed s (fireAfter id n r u) = StartsByTicks s id n r
-Passed s (fireWhen id w r u) = StartsByDate s id w r
-Passed s (reset id) = Named s id × (lastByTicks (slotAt (s .slots) (indexOf id) .kind) ≡ true)
-Passed s (ticksLeft id) = Named s id
-Passed s (tick list) = LongEnough s list
-Passed s (setClock w list) = LongEnough s list × (valid w ≡ true)
-Passed s getClock = s .clock .isSet ≡ true
+-- what each call has passed where it is accepted
+abbrev pub Accepted : State → Call → Type 0
+Accepted s (layOut n t) = LaysOut s n t
+Accepted s (create name) = (0 < name) × (0 < lowestFree s)
+Accepted s (ident name) = (0 < name) × (0 < lowestNamed s name)
+Accepted s (cancel id) = Named s id
+Accepted s (delete id) = Named s id
+Accepted s (fireAfter id n r u) = StartsByTicks s id n r
+Accepted s (fireWhen id w r u) = StartsByDate s id w r
+Accepted s (reset id) = Named s id × (lastByTicks (slotAt (s .slots) (indexOf id) .kind) ≡ true)
+Accepted s (ticksLeft id) = Named s id
+Accepted s (tick list) = LongEnough s list
+Accepted s (setClock w list) = LongEnough s list × (valid w ≡ true)
+Accepted s getClock = s .clock .isSet ≡ true
 
 positive : (n : ℕ) → eqb n 0 ≡ false → 0 < n
 positive n e = pos-of-ne-zero (eqb-false n 0 e)
@@ -164,8 +165,8 @@ module _ (unsound : Bool) (s : State) where
   long-enough : (list : List ℕ) → isShort s list ≡ false → LongEnough s list
   long-enough list e = ltb-false (length list) (3 * length (s .slots)) e
 
-  pub passed : (c : Call) → firstOf (refusals unsound s c) ≡ 0 → Passed s c
-  passed (layOut n t) e =
+  pub accepted-facts : (c : Call) → firstOf (refusals unsound s c) ≡ 0 → Accepted s c
+  accepted-facts (layOut n t) e =
       let p = not-refused (layOut n t) e in
       let b = all-at (leb 1 n ∷ leb n 255 ∷ leb 1 t ∷ leb t 1000 ∷ []) (not-false (allOf (leb 1 n ∷ leb n 255 ∷ leb 1 t ∷ leb t 1000 ∷ [])) (p 0)) in
       record {
@@ -175,14 +176,14 @@ module _ (unsound : Bool) (s : State) where
         ticks-high = leb-true t 1000 (b 3);
         fits = ltb-false (s .room) (10 + 8 * n) (p 1);
       }
-  passed (create name) e = let p = not-refused (create name) e in (positive name (p 1), positive (lowestFree s) (p 2))
-  passed (ident name) e = let p = not-refused (ident name) e in (positive name (p 1), positive (lowestNamed s name) (p 2))
-  passed (cancel id) e = known s id (not-refused (cancel id) e 1)
-  passed (delete id) e = known s id (not-refused (delete id) e 1)
-  passed (fireAfter id n r u) e =
+  accepted-facts (create name) e = let p = not-refused (create name) e in (positive name (p 1), positive (lowestFree s) (p 2))
+  accepted-facts (ident name) e = let p = not-refused (ident name) e in (positive name (p 1), positive (lowestNamed s name) (p 2))
+  accepted-facts (cancel id) e = known s id (not-refused (cancel id) e 1)
+  accepted-facts (delete id) e = known s id (not-refused (delete id) e 1)
+  accepted-facts (fireAfter id n r u) e =
       let p = not-refused (fireAfter id n r u) e in
       record { ticks = positive n (p 1); routine = positive r (p 2); names-one = known s id (p 3) }
-  passed (fireWhen id w r u) e =
+  accepted-facts (fireWhen id w r u) e =
       let p = not-refused (fireWhen id w r u) e in
       let date = both (valid w) (ltb (s .clock .second) (secondsOf w)) (not-false (valid w && ltb (s .clock .second) (secondsOf w)) (p 3)) in
       record {
@@ -192,10 +193,10 @@ module _ (unsound : Bool) (s : State) where
         later = ltb-true (s .clock .second) (secondsOf w) (date .1);
         names-one = known s id (p 4);
       }
-  passed (reset id) e =
+  accepted-facts (reset id) e =
       let p = not-refused (reset id) e in
       (known s id (p 1), not-false (lastByTicks (slotAt (s .slots) (indexOf id) .kind)) (p 2))
-  passed (ticksLeft id) e = known s id (not-refused (ticksLeft id) e 1)
-  passed (tick list) e = long-enough list (not-refused (tick list) e 1)
-  passed (setClock w list) e = let p = not-refused (setClock w list) e in (long-enough list (p 1), not-false (valid w) (p 2))
-  passed getClock e = not-false (s .clock .isSet) (not-refused getClock e 1)
+  accepted-facts (ticksLeft id) e = known s id (not-refused (ticksLeft id) e 1)
+  accepted-facts (tick list) e = long-enough list (not-refused (tick list) e 1)
+  accepted-facts (setClock w list) e = let p = not-refused (setClock w list) e in (long-enough list (p 1), not-false (valid w) (p 2))
+  accepted-facts getClock e = not-false (s .clock .isSet) (not-refused getClock e 1)

@@ -23,7 +23,7 @@ use Rattle.model.proofs.WellFormed.{WellFormed}
 use Rattle.model.proofs.ClockSteps.{clock-unset, clock-isSet, clock-perSecond, clock-into}
 use Rattle.model.proofs.Steps.{clock-started}
 use Rattle.model.proofs.HistoryLaws.{fresh, dueNow}
-use Rattle.model.proofs.ChainLaws.{chainFrom, amount, presses, map-same, chain-other, chain-calm, chain-start}
+use Rattle.model.proofs.ChainLaws.{chainFrom, amount, bringsDue, map-same, chain-other, chain-calm, chain-start}
 use Rattle.model.proofs.ClockLaws.{onward, one-later, standing, at-or-past, step-onward}
 
 -- ---- a chain as it is shown
@@ -90,7 +90,7 @@ kept-all l = keep-all (λ w. true) l (all (λ w. true ≡ true) (λ w. refl) l)
 kept-none : (l : List Waiting) → keep (λ w. false) l ≡ []
 kept-none l = keep-none (λ w. false) l (all (λ w. false ≡ false) (λ w. refl) l)
 
-nothing-calm : (k : Chain) → presses k nothing ≡ false
+nothing-calm : (k : Chain) → bringsDue k nothing ≡ false
 nothing-calm ByTicks = refl
 nothing-calm ByDate = refl
 
@@ -135,7 +135,7 @@ module _ (s : State) (A h : List Event) (v : Agrees s A h) where
     clock = refl;
   }
     where
-      ended : (k : Chain) → presses k (laidOutFor t) ≡ false → chainFrom k (A ++ (laidOutFor t ∷ [])) ≡ []
+      ended : (k : Chain) → bringsDue k (laidOutFor t) ≡ false → chainFrom k (A ++ (laidOutFor t ∷ [])) ≡ []
       ended k calm = chain-calm k (laidOutFor t) calm A refl ∙ kept-none (chainFrom k A)
 
       empty : (k : Chain) → map (shown (replicate n free)) (chainOf k (laidOut room n t)) ≡ chainFrom k (A ++ (laidOutFor t ∷ []))
@@ -177,7 +177,7 @@ module _ (s : State) (A h : List Event) (v : Agrees s A h) (id i : ℕ) (is : id
   other-id : (j : ℕ) → eqb j i ≡ false → eqb id (idBase + j) ≡ false
   other-id j e = same-id id i j is ∙ e
 
-  stop-calm : (o : Option Start) (k : Chain) → presses k (changes id o) ≡ false
+  stop-calm : (o : Option Start) (k : Chain) → bringsDue k (changes id o) ≡ false
   stop-calm o ByTicks = refl
   stop-calm o ByDate = refl
 

@@ -288,12 +288,12 @@ Linked k t p b [] = Unit {0}
 Linked k t p b (w ∷ ws) = Stands k t p b w (first ws) × Linked k t (w .slot) (w .wait) ws
 
 -- the words of the slot i are those that the links c give it
-record Agrees (k : Chain) (t : List ℕ) (p b : ℕ) (c : List Link) (i : ℕ) : Type 0 where
+record SlotAgrees (k : Chain) (t : List ℕ) (p b : ℕ) (c : List Link) (i : ℕ) : Type 0 where
   next : field t 6 i ≡ nextIn c i
   previous : field t 7 i ≡ previousIn p c i
   wait : field t 3 i ≡ waitIn k b c i
 
-agree-linked : (k : Chain) (t : List ℕ) (p b : ℕ) (c : List Link) → ((i : ℕ) → timesIn c i ≤ 1) → ((i : ℕ) → 0 < timesIn c i → Agrees k t p b c i)
+agree-linked : (k : Chain) (t : List ℕ) (p b : ℕ) (c : List Link) → ((i : ℕ) → timesIn c i ≤ 1) → ((i : ℕ) → 0 < timesIn c i → SlotAgrees k t p b c i)
     → Linked k t p b c
 agree-linked k t p b [] o h = tt
 agree-linked k t p b (w ∷ ws) o h =
@@ -306,13 +306,13 @@ agree-linked k t p b (w ∷ ws) o h =
     more : (i : ℕ) → timesIn ws i ≤ timesIn (w ∷ ws) i
     more i = cases (eqb (w .slot) i) (λ e. rw e (omega arith)) (λ e. rw e (omega arith))
 
-    later : (i : ℕ) → 0 < timesIn ws i → Agrees k t (w .slot) (w .wait) ws i
+    later : (i : ℕ) → 0 < timesIn ws i → SlotAgrees k t (w .slot) (w .wait) ws i
     later i m =
         cases (eqb (w .slot) i)
         (λ e. absurd (let z : suc (timesIn ws i) ≤ 1 = rw e at (o i) in omega arith))
         (λ e. let a = h i (rw e m) in record { next = a .next ∙ rw e; previous = a .previous ∙ rw e; wait = a .wait ∙ rw e })
 
-linked-agree : (k : Chain) (t : List ℕ) (p b : ℕ) (c : List Link) → Linked k t p b c → (i : ℕ) → 0 < timesIn c i → Agrees k t p b c i
+linked-agree : (k : Chain) (t : List ℕ) (p b : ℕ) (c : List Link) → Linked k t p b c → (i : ℕ) → 0 < timesIn c i → SlotAgrees k t p b c i
 linked-agree k t p b [] h i m = absurd (omega arith)
 linked-agree k t p b (w ∷ ws) h i m =
     cases (eqb (w .slot) i)
