@@ -74,6 +74,30 @@ effect-holds t ok c e = go (isLayOut c) refl
         let s = effect (read t) c .state in
         over-holds t (read t) s (sound-holds t ok) (kept (read t) (sound-well-formed t ok) (not (sound t)) c st .chained) (slots-kept (read t) c l) (effect-room (read t) c)
 
+-- ---- between two calls
+
+module _ (t : List ℕ) (es h : List Event) (g : SoundAndAgreeing t es h) where
+  standing-now : Standing t es
+  standing-now =
+      let hold = sound-holds t (g .is-sound) in
+      record {
+        is-sound = g .is-sound;
+        by-next = λ k. (history k es, order-in-order dueAt (keep (inChain k) (keep waits (starts es))), each k);
+        by-previous = back;
+        once = once-both (read t) (hold .chained);
+        rate = ap perSecond (g .agrees .back) ∙ g .agrees .per;
+        clock = ap (clockAfter 0) (g .agrees .back) ∙ g .agrees .clock;
+      }
+    where
+      each : (k : Chain) → map (shown (read t .slots)) (links k t) ≡ chainFrom k es
+      each ByTicks = g .agrees .chain ByTicks
+      each ByDate = g .agrees .chain ByDate
+
+      back : (k : Chain) → along (field t 7) (word t 0) (first (reverse (links k t)))
+          ≡ map (λ w. w .slot) (reverse (links k t))
+      back ByTicks = by-previous t (read t) (sound-holds t (g .is-sound)) ByTicks
+      back ByDate = by-previous t (read t) (sound-holds t (g .is-sound)) ByDate
+
 -- ---- one call more
 
 module _ (t : List ℕ) (es h : List Event) (g : SoundAndAgreeing t es h) (c : Call) where
@@ -124,27 +148,6 @@ module _ (t : List ℕ) (es h : List Event) (g : SoundAndAgreeing t es h) (c : C
       none : (k : Chain) → moves (eventOf h c) ≡ false → order dueAt (keep (inChain k) (keep (fires (eventOf h c)) (starts es))) ≡ []
       none k still =
           none-due (read t) es h (g .agrees) (sound-well-formed t (g .is-sound)) (not (sound t)) k (eventOf h c) still (no-tick (eventOf h c) still)
-
-  standing-now : Standing t es
-  standing-now =
-      let hold = sound-holds t (g .is-sound) in
-      record {
-        is-sound = g .is-sound;
-        by-next = λ k. (history k es, order-in-order dueAt (keep (inChain k) (keep waits (starts es))), each k);
-        by-previous = back;
-        once = once-both (read t) (hold .chained);
-        rate = ap perSecond (g .agrees .back) ∙ g .agrees .per;
-        clock = ap (clockAfter 0) (g .agrees .back) ∙ g .agrees .clock;
-      }
-    where
-      each : (k : Chain) → map (shown (read t .slots)) (links k t) ≡ chainFrom k es
-      each ByTicks = g .agrees .chain ByTicks
-      each ByDate = g .agrees .chain ByDate
-
-      back : (k : Chain) → along (field t 7) (word t 0) (first (reverse (links k t)))
-          ≡ map (λ w. w .slot) (reverse (links k t))
-      back ByTicks = by-previous t (read t) (sound-holds t (g .is-sound)) ByTicks
-      back ByDate = by-previous t (read t) (sound-holds t (g .is-sound)) ByDate
 
 -- ---- a list of calls
 
@@ -197,6 +200,6 @@ demand3 w n t e cs =
     let now : List Call → List ℕ = λ xs. after w (layOut n t ∷ xs) in
     let es : List Call → List Event = λ xs. eventsAfter w (layOut n t ∷ xs) in
     record {
-      standing = λ xs ys _. standing-now (now xs) (es xs) (reverse (es xs)) (after-calls w n t e xs) (layOut n t);
+      standing = λ xs ys _. standing-now (now xs) (es xs) (reverse (es xs)) (after-calls w n t e xs);
       answers = λ xs ys c _. answers-now (now xs) (es xs) (reverse (es xs)) (after-calls w n t e xs) c;
     }
