@@ -25,7 +25,8 @@ use Rattle.model.proofs.Searches.{found}
 use Rattle.model.proofs.Refused.{accepted-facts}
 use Rattle.model.proofs.HistoryLaws.{dueNow}
 use Rattle.model.proofs.ChainLaws.{chainFrom, bringsDue, not-due, chain-fires}
-use Rattle.model.proofs.Simulation.{beginning, Remembers, Agrees, on-nothing, on-stored, on-lay-out, on-stop, on-start, on-set-clock, set-clock-fires, on-tick, tick-fires}
+use Rattle.model.proofs.Simulation.{beginning, Remembers, Agrees, on-nothing, on-stored, on-lay-out, on-stop, on-start}
+use Rattle.model.proofs.ClockSimulation.{on-set-clock, set-clock-fires, on-tick, tick-fires}
 
 module _ (s : State) (A h : List Event) (v : Agrees s A h) (f : WellFormed s) (unsound : Bool) where
   pub agrees-step : (c : Call) → firstOf (refusals unsound s c) ≡ 0 → Agrees (effect s c .state) (A ++ (eventOf h c ∷ [])) (eventOf h c ∷ h)

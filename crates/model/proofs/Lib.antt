@@ -21,6 +21,7 @@ pub mod HistoryLaws
 pub mod ChainLaws
 pub mod ClockLaws
 pub mod Simulation
+pub mod ClockSimulation
 pub mod Agreement
 pub mod OutcomeLaws
 pub mod Demand3
