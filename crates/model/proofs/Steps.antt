@@ -83,13 +83,14 @@ module _ (s : State) (slots : List Slot) (l : List Link) where
 -- ---- what keeps one chain in order
 
 module _ (k : Chain) (slots : List Slot) (l : List Link) (h : Ordered k slots l) where
-  -- a slot is written, and cut out of the chain; and put into its place; and if it is in no chain
+  -- the links to the other slots still fit where slot i is written
   within-put : (i : ℕ) (x : Slot) → All (Fits k (putAt slots i x)) (without i l)
   within-put i x =
       let others : Link → Bool = λ w. not (eqb (w .slot) i) in
       all-map (λ (w : Link) p. rw (at-other slots i (w .slot) x (eqb-false (w .slot) i (not-true (eqb (w .slot) i) (p .0)))) (p .1)) (without i l)
       (all-zip (λ w. others w ≡ true) (Fits k slots) (without i l) (all-passed others l) (all-keep (Fits k slots) others l (h .within)))
 
+  -- slot i is written and cut out of the chain
   ordered-cut : (i : ℕ) (x : Slot) → 0 < i → i ≤ length slots → waitsIn k (x .kind) ≡ false → Ordered k (putAt slots i x) (without i l)
   ordered-cut i x low high e = record {
     meets = put-at (λ j y. timesIn (without i l) j ≡ cond (waitsIn k (y .kind)) 1 0) slots i x low high
@@ -98,6 +99,7 @@ module _ (k : Chain) (slots : List Slot) (l : List Link) (h : Ordered k slots l)
     within = within-put i x;
   }
 
+  -- it is written and put into its place
   ordered-place : (i wait : ℕ) (x : Slot) → 0 < i → i ≤ length slots → x .kind ≡ waitingKind k → Within k wait (x .interval)
       → Ordered k (putAt slots i x) (place (λ w. w .wait) (record { slot = i; wait = wait }) (without i l))
   ordered-place i wait x low high e f =
@@ -114,6 +116,7 @@ module _ (k : Chain) (slots : List Slot) (l : List Link) (h : Ordered k slots l)
             (rw (at-same slots i x low high) f) (within-put i x);
       }
 
+  -- it is written and was in no chain
   ordered-put : (i : ℕ) (x : Slot) → 0 < i → i ≤ length slots → waitsIn k (slotAt slots i .kind) ≡ false → waitsIn k (x .kind) ≡ false
       → Ordered k (putAt slots i x) l
   ordered-put i x low high e f =
