@@ -16,14 +16,13 @@ use Rattle.model.specs.Calls.{Call, layOut, create, ident, cancel, delet
 use Rattle.model.specs.Kinds.{Chain, ByTicks, ByDate}
 use Rattle.model.specs.State.{State, free, slotAt, indexOf, Fired, listed}
 use Rattle.model.specs.Directives.{refusals, lowestFree, unused, idled, effect}
-use Rattle.model.specs.History.{afterTicks, atDate, Start, Event, changes, nothing, lastStart, eventOf, isTick, moves, Placed, starts, fires, dueAt, inChain, entry}
+use Rattle.model.specs.History.{afterTicks, atDate, Start, Event, laidOutFor, changes, oneTick, clockSetTo, nothing, lastStart, eventOf, isTick, moves, Placed, entry}
 use Rattle.model.proofs.ListLaws.{clash, all, keep-none}
-use Rattle.model.proofs.Order.{order}
 use Rattle.model.proofs.WellFormed.{WellFormed}
 use Rattle.model.proofs.Slots.{memo-idled}
 use Rattle.model.proofs.Searches.{found}
 use Rattle.model.proofs.Refused.{accepted-facts}
-use Rattle.model.proofs.HistoryLaws.{dueNow}
+use Rattle.model.proofs.HistoryLaws.{dueIn, dueNow}
 use Rattle.model.proofs.ChainLaws.{chainFrom, bringsDue, not-due, chain-fires}
 use Rattle.model.proofs.Simulation.{beginning, Remembers, Agrees, on-nothing, on-stored, on-lay-out, on-stop, on-start}
 use Rattle.model.proofs.ClockSimulation.{on-set-clock, set-clock-fires, on-tick, tick-fires}
@@ -67,58 +66,59 @@ module _ (s : State) (A h : List Event) (v : Agrees s A h) (f : WellFormed s) (u
   agrees-step (setClock w list) e = on-set-clock s A h v f (secondsOf w) (seconds-in-range w (accepted-facts unsound s (setClock w list) e .1)) list
   agrees-step getClock e = on-nothing s A h v
 
-  -- ---- what is listed
+-- ---- what is listed
 
-  -- those of a chain that fire in e, in firing order
-  dueIn : Chain → Event → List Placed
-  dueIn k e = order dueAt (keep (inChain k) (keep (fires e) (starts A)))
+no-tick : (e : Event) → moves e ≡ false → isTick e ≡ false
+no-tick (laidOutFor k) z = refl
+no-tick (changes i s) z = refl
+no-tick oneTick z = clash z
+no-tick (clockSetTo d) z = refl
+no-tick nothing z = refl
 
+module _ (A : List Event) (e : Event) where
   empty : (l : List Placed) → map entry l ≡ [] → l ≡ []
   empty [] z = refl
   empty (x ∷ xs) z = absurd (cons≢nil z)
 
-  pub none-due : (k : Chain) (e : Event) → moves e ≡ false → isTick e ≡ false → order dueAt (keep (inChain k) (keep (fires e) (starts A))) ≡ []
-  none-due k e m t =
-      empty (order dueAt (keep (inChain k) (keep (fires e) (starts A))))
+  -- an event that does not move the clock makes nothing due
+  pub none-due : (k : Chain) → moves e ≡ false → dueIn k A e ≡ []
+  none-due k still =
+      let h = reverseAux A [] in
+      empty (dueIn k A e)
       (chain-fires k A e
-      ∙ ap (map (λ w. w .shows)) (keep-none (dueNow k e (reverseAux A [])) (chainFrom k A)
-      (all (λ w. dueNow k e (reverseAux A []) w ≡ false) (λ w. not-due k e (calm k) (reverseAux A []) w) (chainFrom k A))))
+      ∙ ap (map (λ w. w .shows)) (keep-none (dueNow k e h) (chainFrom k A) (all (λ w. dueNow k e h w ≡ false) (not-due k e (calm k) h) (chainFrom k A))))
     where
       calm : (k : Chain) → bringsDue k e ≡ false
-      calm ByTicks = t
-      calm ByDate = m
+      calm ByTicks = no-tick e still
+      calm ByDate = still
+
+  none-listed : moves e ≡ false → [] ≡ map entry (dueIn ByTicks A e ++ dueIn ByDate A e)
+  none-listed still = sym (ap₂ (λ (a b : List Placed). map entry (a ++ b)) (none-due ByTicks still) (none-due ByDate still))
 
   -- the listed ones are those due, interval timers first
-  both-due : (e : Event) (fired : List Fired) → fired ≡ map (λ w. w .shows) (keep (dueNow ByTicks e (reverseAux A [])) (chainFrom ByTicks A))
-      ++ map (λ w. w .shows) (keep (dueNow ByDate e (reverseAux A [])) (chainFrom ByDate A)) → fired ≡ map entry (dueIn ByTicks e ++ dueIn ByDate e)
-  unfolding dueIn
-  both-due e fired z =
+  both-due : (fired : List Fired) → fired ≡ map (λ w. w .shows) (keep (dueNow ByTicks e (reverseAux A [])) (chainFrom ByTicks A))
+      ++ map (λ w. w .shows) (keep (dueNow ByDate e (reverseAux A [])) (chainFrom ByDate A)) → fired ≡ map entry (dueIn ByTicks A e ++ dueIn ByDate A e)
+  both-due fired z =
       z ∙ ap₂ (λ (a b : List Fired). a ++ b) (sym (chain-fires ByTicks A e)) (sym (chain-fires ByDate A e))
-      ∙ sym (map-append entry (dueIn ByTicks e) (dueIn ByDate e))
+      ∙ sym (map-append entry (dueIn ByTicks A e) (dueIn ByDate A e))
 
-  pub lists-due : (c : Call) → firstOf (refusals unsound s c) ≡ 0 → map (listed (s .slots)) (effect s c .fired)
-      ≡ map entry (order dueAt (keep (inChain ByTicks) (keep (fires (eventOf h c)) (starts A))) ++ order dueAt (keep (inChain ByDate) (keep (fires (eventOf h c)) (starts A))))
-  unfolding dueIn
-  lists-due c e = go c e
-    where
-      quiet : (e : Event) → moves e ≡ false → isTick e ≡ false → [] ≡ map entry (dueIn ByTicks e ++ dueIn ByDate e)
-      quiet e m t = sym (ap₂ (λ (a b : List Placed). map entry (a ++ b)) (none-due ByTicks e m t) (none-due ByDate e m t))
-
-      go : (c : Call) → firstOf (refusals unsound s c) ≡ 0 → map (listed (s .slots)) (effect s c .fired) ≡ map entry (dueIn ByTicks (eventOf h c) ++ dueIn ByDate (eventOf h c))
-      go (layOut n t) e = quiet (eventOf h (layOut n t)) refl refl
-      go (create name) e = quiet nothing refl refl
-      go (ident name) e = quiet nothing refl refl
-      go (cancel id) e = quiet (eventOf h (cancel id)) refl refl
-      go (delete id) e = quiet (eventOf h (delete id)) refl refl
-      go (fireAfter id n r u) e = quiet (eventOf h (fireAfter id n r u)) refl refl
-      go (fireWhen id w r u) e = quiet (eventOf h (fireWhen id w r u)) refl refl
-      go (reset id) e = quiet (eventOf h (reset id)) refl refl
-      go (ticksLeft id) e = quiet nothing refl refl
-      go (tick list) e = both-due (eventOf h (tick list)) (map (listed (s .slots)) (effect s (tick list) .fired)) (tick-fires s A h v f list)
-      go (setClock w list) e =
-          both-due (eventOf h (setClock w list)) (map (listed (s .slots)) (effect s (setClock w list) .fired))
-          (set-clock-fires s A h v f (secondsOf w) (seconds-in-range w (accepted-facts unsound s (setClock w list) e .1)) list)
-      go getClock e = quiet nothing refl refl
+module _ (s : State) (A h : List Event) (v : Agrees s A h) (f : WellFormed s) (unsound : Bool) where
+  pub lists-due : (c : Call) → firstOf (refusals unsound s c) ≡ 0
+      → map (listed (s .slots)) (effect s c .fired) ≡ map entry (dueIn ByTicks A (eventOf h c) ++ dueIn ByDate A (eventOf h c))
+  lists-due (layOut n t) e = none-listed A (eventOf h (layOut n t)) refl
+  lists-due (create name) e = none-listed A nothing refl
+  lists-due (ident name) e = none-listed A nothing refl
+  lists-due (cancel id) e = none-listed A (eventOf h (cancel id)) refl
+  lists-due (delete id) e = none-listed A (eventOf h (delete id)) refl
+  lists-due (fireAfter id n r u) e = none-listed A (eventOf h (fireAfter id n r u)) refl
+  lists-due (fireWhen id w r u) e = none-listed A (eventOf h (fireWhen id w r u)) refl
+  lists-due (reset id) e = none-listed A (eventOf h (reset id)) refl
+  lists-due (ticksLeft id) e = none-listed A nothing refl
+  lists-due (tick list) e = both-due A (eventOf h (tick list)) (map (listed (s .slots)) (effect s (tick list) .fired)) (tick-fires s A h v f list)
+  lists-due (setClock w list) e =
+      both-due A (eventOf h (setClock w list)) (map (listed (s .slots)) (effect s (setClock w list) .fired))
+      (set-clock-fires s A h v f (secondsOf w) (seconds-in-range w (accepted-facts unsound s (setClock w list) e .1)) list)
+  lists-due getClock e = none-listed A nothing refl
 
 -- a tick and a set clock answer the number of those that fire
 pub counts : (s : State) (h : List Event) (c : Call) → moves (eventOf h c) ≡ true → effect s c .answer ≡ length (effect s c .fired) ∷ []

@@ -9,10 +9,10 @@ use lib.Dec.{leb, eqb}
 use borrow.Author.Tests.{leb-true, leb-false, le-leb, lt-leb}
 use Rattle.model.specs.Lists.{keep, place}
 use Rattle.model.specs.Kinds.{Chain, ByTicks, ByDate}
-use Rattle.model.specs.History.{Due, afterTicks, atDate, Start, Event, changes, isTick, ticks, moves, Placed, ends, starts, dueWithin, waits, wasDue, also, fires, dueNumber, dueAt, isFor, inChain, entry, Waiting, remaining, waiting}
+use Rattle.model.specs.History.{Due, afterTicks, atDate, Start, Event, changes, isTick, ticks, moves, Placed, ends, dueWithin, waits, wasDue, also, dueNumber, dueAt, isFor, inChain, entry, Waiting, remaining, waiting}
 use Rattle.model.proofs.ListLaws.{cases, clash, all, all-map, all-keep, all-mapped, keep-on, keep-map, map-on, map-place}
-use Rattle.model.proofs.Order.{order, orderOn}
-use Rattle.model.proofs.HistoryLaws.{fresh, stays, history, history-snoc, history-fires, Waits, waits-all, dueNow, lowered, shift, due-now, shown-also, due-shift}
+use Rattle.model.proofs.Order.{orderOn}
+use Rattle.model.proofs.HistoryLaws.{fresh, stays, history, dueIn, history-snoc, history-fires, Waits, waits-all, dueNow, lowered, shift, due-now, shown-also, due-shift}
 
 abbrev pub chainFrom : Chain → List Event → List Waiting
 chainFrom k A = map waiting (history k A)
@@ -59,8 +59,7 @@ module _ (k : Chain) (A : List Event) (e : Event) where
       ∙ kept
 
   -- those that fire in the event, as the fired list has them
-  pub chain-fires : map entry (order dueAt (keep (inChain k) (keep (fires e) (starts A))))
-      ≡ map (λ w. w .shows) (keep (dueNow k e (reverseAux A [])) (chainFrom k A))
+  pub chain-fires : map entry (dueIn k A e) ≡ map (λ w. w .shows) (keep (dueNow k e (reverseAux A [])) (chainFrom k A))
   chain-fires =
       let h = reverseAux A [] in
       let H = history k A in

@@ -17,10 +17,10 @@ use Rattle.model.specs.Directives.{refusals, laidOut, effect}
 use Rattle.model.specs.Words.{first, over, word, field, along, links, read}
 use Rattle.model.specs.Sound.{sound}
 use Rattle.model.specs.Outcome.{Outcome, statusOn, refused, written, outcome}
-use Rattle.model.specs.History.{Event, laidOutFor, changes, oneTick, clockSetTo, nothing, eventOf, eventsFrom, perSecond, clockAfter, moves, isTick, starts, waits, fires, inChain, dueAt, entry}
+use Rattle.model.specs.History.{Event, laidOutFor, eventOf, eventsFrom, perSecond, clockAfter, starts, waits, fires, inChain, dueAt, entry}
 use Rattle.model.specs.Demand.{after, acceptedIn, shown, Standing, Answers, eventsAfter, Demand3}
 use Rattle.model.proofs.ListLaws.{cases, clash}
-use Rattle.model.proofs.Order.{order, order-in-order}
+use Rattle.model.proofs.Order.{order-in-order}
 use Rattle.model.proofs.WellFormed.{Holds}
 use Rattle.model.proofs.Chains.{once-both}
 use Rattle.model.proofs.ReadBack.{slots-length, read-back, by-previous, over-holds, written-holds}
@@ -30,7 +30,7 @@ use Rattle.model.proofs.Steps.{chained-laid, length-laid}
 use Rattle.model.proofs.Refused.{accepted-facts, isLayOut}
 use Rattle.model.proofs.Kept.{kept, laid-well-formed, effect-room, slots-kept, bound}
 use Rattle.model.proofs.ChainLaws.{chainFrom}
-use Rattle.model.proofs.HistoryLaws.{history}
+use Rattle.model.proofs.HistoryLaws.{history, dueIn}
 use Rattle.model.proofs.Simulation.{Agrees, agrees-laid}
 use Rattle.model.proofs.Agreement.{agrees-step, lists-due, none-due, counts}
 use Rattle.model.proofs.OutcomeLaws.{status-is, outcome-accepted, outcome-refused, outcome-status}
@@ -119,8 +119,8 @@ module _ (t : List ℕ) (es h : List Event) (g : SoundAndAgreeing t es h) (c : C
         let z : statusOn t c ≡ 0 = sym (outcome-status t c) ∙ e in
         let st = sym (status-is t c) ∙ z in
         let f = sound-well-formed t (g .is-sound) in
-        let l = order dueAt (keep (inChain ByTicks) (keep (fires (eventOf h c)) (starts es))) in
-        let m = order dueAt (keep (inChain ByDate) (keep (fires (eventOf h c)) (starts es))) in
+        let l = dueIn ByTicks es (eventOf h c) in
+        let m = dueIn ByDate es (eventOf h c) in
         let o = outcome-accepted t c z in
         let due = lists-due (read t) es h (g .agrees) f (not (sound t)) c st in
         let many : length (l ++ m) ≡ length (effect (read t) c .fired) =
@@ -132,22 +132,11 @@ module _ (t : List ℕ) (es h : List Event) (g : SoundAndAgreeing t es h) (c : C
           dated-order = order-in-order dueAt (keep (inChain ByDate) (keep (fires (eventOf h c)) (starts es)));
           entries = ap (λ (x : Outcome). x .list) o ∙ ap (λ x. written x (effect (read t) c .lent)) due;
           counted = λ moving. ap (λ (x : Outcome). x .answer) o ∙ counts (read t) h c moving ∙ ap {B = List ℕ} (λ (n : ℕ). n ∷ []) (sym many);
-          quiet = λ still. ap₂ (λ a b. a ++ b) (none ByTicks still) (none ByDate still);
+          quiet = λ still. ap₂ (λ a b. a ++ b) (none-due es (eventOf h c) ByTicks still) (none-due es (eventOf h c) ByDate still);
           few = omega (arith, many, bound (read t) f c, slots-length t);
         };
     refuses = λ e. outcome-refused t c (λ z. e (outcome-status t c ∙ z)) ∙ ap (λ (n : ℕ). refused n t c) (sym (outcome-status t c));
   }
-    where
-      no-tick : (e : Event) → moves e ≡ false → isTick e ≡ false
-      no-tick (laidOutFor k) z = refl
-      no-tick (changes i s) z = refl
-      no-tick oneTick z = clash z
-      no-tick (clockSetTo d) z = refl
-      no-tick nothing z = refl
-
-      none : (k : Chain) → moves (eventOf h c) ≡ false → order dueAt (keep (inChain k) (keep (fires (eventOf h c)) (starts es))) ≡ []
-      none k still =
-          none-due (read t) es h (g .agrees) (sound-well-formed t (g .is-sound)) (not (sound t)) k (eventOf h c) still (no-tick (eventOf h c) still)
 
 -- ---- a list of calls
 

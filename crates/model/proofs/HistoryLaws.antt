@@ -58,6 +58,10 @@ waits-also e g =
 abbrev pub history : Chain → List Event → List Placed
 history k A = order dueAt (keep (inChain k) (keep waits (starts A)))
 
+-- those of a chain that fire in e, in firing order
+abbrev pub dueIn : Chain → List Event → Event → List Placed
+dueIn k A e = order dueAt (keep (inChain k) (keep (fires e) (starts A)))
+
 keep-swap : {A : Type 0} (p q : A → Bool) (l : List A) → keep p (keep q l) ≡ keep q (keep p l)
 keep-swap p q l =
     keep-and p q l
@@ -89,7 +93,7 @@ module _ (k : Chain) (A : List Event) (e : Event) where
       ∙ ap (map (also e)) (sym (keep-order dueAt (stays e) (keep (inChain k) W))))
 
   -- those that fire in e are due in it, among those that wait
-  pub history-fires : order dueAt (keep (inChain k) (keep (fires e) (starts A))) ≡ keep (λ g. wasDue (also e g)) (history k A)
+  pub history-fires : dueIn k A e ≡ keep (λ g. wasDue (also e g)) (history k A)
   history-fires =
       ap (λ (l : List Placed). order dueAt (keep (inChain k) l)) (sym (keep-and (λ g. wasDue (also e g)) waits (starts A)))
       ∙ ap (order dueAt) (keep-swap (inChain k) (λ g. wasDue (also e g)) (keep waits (starts A)))
