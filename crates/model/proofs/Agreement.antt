@@ -86,7 +86,7 @@ module _ (A : List Event) (e : Event) where
       let h = reverseAux A [] in
       empty (dueIn k A e)
       (chain-fires k A e
-      ∙ ap (map (λ w. w .shows)) (keep-none (dueNow k e h) (chainFrom k A) (all (λ w. dueNow k e h w ≡ false) (not-due k e (calm k) h) (chainFrom k A))))
+      ∙ ap (map (λ w. w .shows)) (keep-none (dueNow k e h) (chainFrom k A) (all (not-due k e (calm k) h) (chainFrom k A))))
     where
       calm : (k : Chain) → bringsDue k e ≡ false
       calm ByTicks = no-tick e still

@@ -92,8 +92,7 @@ module _ (k : Chain) (e : Event) (calm : bringsDue k e ≡ false) where
   only-ends h l =
       map-same (lowered k e) (lowered-same k e calm) (keep (remains k e h) l)
       ∙ keep-on (remains k e h) (λ w. not (ends (w .shows .id) e)) l
-      (all (λ w. remains k e h w ≡ not (ends (w .shows .id) e))
-      (λ w. ap (λ (b : Bool). not (ends (w .shows .id) e) && not b) (not-due k e calm h w) ∙ and-true (not (ends (w .shows .id) e))) l)
+      (all (λ w. ap (λ (b : Bool). not (ends (w .shows .id) e) && not b) (not-due k e calm h w) ∙ and-true (not (ends (w .shows .id) e))) l)
 
   pub chain-calm : (A : List Event) → keep (inChain k) (keep waits (fresh (reverseAux A []) e)) ≡ []
       → chainFrom k (A ++ (e ∷ [])) ≡ keep (λ w. not (ends (w .shows .id) e)) (chainFrom k A)

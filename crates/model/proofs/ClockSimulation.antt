@@ -65,8 +65,8 @@ cut-clock c h w per stand into unset =
     ap₂ (λ (t : ℕ) (o : Option ℕ). atLeast (w * t) o) per stand ∙ go (c .isSet) refl
   where
     go : (b : Bool) → c .isSet ≡ b → atLeast (w * c .perSecond) (standing c) ≡ leb w (c .second)
-    go true f = ap (λ (b : Bool). atLeast (w * c .perSecond) (cond b (some (c .second * c .perSecond + c .ticksInto)) none)) f ∙ at-or-past (c .perSecond) (c .second) (c .ticksInto) w into
-    go false f = ap (λ (b : Bool). atLeast (w * c .perSecond) (cond b (some (c .second * c .perSecond + c .ticksInto)) none)) f ∙ sym (lt-leb w (c .second) (unset f))
+    go true f = rw f (at-or-past (c .perSecond) (c .second) (c .ticksInto) w into)
+    go false f = rw f (sym (lt-leb w (c .second) (unset f)))
 
 says-memo : (x y : Slot) → memo x ≡ memo y → says x ≡ says y
 says-memo x y e = ap (λ (m : Memo). record { routine = m .routine; userData = m .userData }) e
@@ -87,8 +87,7 @@ module _ (s : State) (A h : List Event) (v : Agrees s A h) (f : WellFormed s) wh
         ∙ ap {B = Option ℕ} some (omega (arith, mul-le-mul-right (s .clock .perSecond) in-range, f .per-low))
 
     set-cut : All (λ w. past (w .wait) (clockSetTo d ∷ h) ≡ leb (w .wait) d) (s .dated)
-    set-cut = all (λ w. past (w .wait) (clockSetTo d ∷ h) ≡ leb (w .wait) d)
-        (λ w. cut-clock (clockAt (s .clock) d 0) (clockSetTo d ∷ h) (w .wait) set-per set-clock (f .per-low) (λ e. clash e)) (s .dated)
+    set-cut = all (λ w. cut-clock (clockAt (s .clock) d 0) (clockSetTo d ∷ h) (w .wait) set-per set-clock (f .per-low) (λ e. clash e)) (s .dated)
 
     pub on-set-clock : Agrees (clockMoved s d list .state) (A ++ (clockSetTo d ∷ [])) (clockSetTo d ∷ h)
     on-set-clock = record {
@@ -143,7 +142,7 @@ module _ (s : State) (A h : List Event) (v : Agrees s A h) (f : WellFormed s) wh
         let sl = s .slots in
         let l = s .ticking in
         ap (map (shown sl)) (keep-map closer (λ w. ltb 0 (w .wait)) l
-        ∙ ap (map closer) (keep-on (λ w. ltb 0 (w .wait - 1)) (λ w. not (leb (w .wait) 1)) l (all (λ w. ltb 0 (w .wait - 1) ≡ not (leb (w .wait) 1)) (λ w. nearer-left (w .wait)) l)))
+        ∙ ap (map closer) (keep-on (λ w. ltb 0 (w .wait - 1)) (λ w. not (leb (w .wait) 1)) l (all (λ w. nearer-left (w .wait)) l)))
         ∙ map-map (shown sl) closer (keep (λ w. not (leb (w .wait) 1)) l)
         ∙ sym (map-map down (shown sl) (keep (λ w. not (leb (w .wait) 1)) l))
         ∙ ap (map down) (sym (keep-map (shown sl) (λ w. not (leb (w .wait) 1)) l) ∙ ap (keep (λ w. not (leb (w .wait) 1))) (v .chain ByTicks))
@@ -158,7 +157,7 @@ module _ (s : State) (A h : List Event) (v : Agrees s A h) (f : WellFormed s) wh
         let sl = s .slots in
         let l = s .ticking in
         ap (map (listed sl)) (keep-map closer (λ w. leb (w .wait) 0) l
-        ∙ ap (map closer) (keep-on (λ w. leb (w .wait - 1) 0) (λ w. leb (w .wait) 1) l (all (λ w. leb (w .wait - 1) 0 ≡ leb (w .wait) 1) (λ w. nearer-due (w .wait)) l)))
+        ∙ ap (map closer) (keep-on (λ w. leb (w .wait - 1) 0) (λ w. leb (w .wait) 1) l (all (λ w. nearer-due (w .wait)) l)))
         ∙ map-map (listed sl) closer (keep (λ w. leb (w .wait) 1) l)
         ∙ sym (map-map (λ w. w .shows) (shown sl) (keep (λ w. leb (w .wait) 1) l))
         ∙ ap (map (λ w. w .shows)) (sym (keep-map (shown sl) (λ w. leb (w .wait) 1) l) ∙ ap (keep (λ w. leb (w .wait) 1)) (v .chain ByTicks))

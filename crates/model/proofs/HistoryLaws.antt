@@ -65,7 +65,7 @@ dueIn k A e = order dueAt (keep (inChain k) (keep (fires e) (starts A)))
 keep-swap : {A : Type 0} (p q : A → Bool) (l : List A) → keep p (keep q l) ≡ keep q (keep p l)
 keep-swap p q l =
     keep-and p q l
-    ∙ keep-on (λ x. q x && p x) (λ x. p x && q x) l (all (λ x. (q x && p x) ≡ (p x && q x)) (λ x. and-comm (q x) (p x)) l)
+    ∙ keep-on (λ x. q x && p x) (λ x. p x && q x) l (all (λ x. and-comm (q x) (p x)) l)
     ∙ sym (keep-and q p l)
 
 module _ (k : Chain) (A : List Event) (e : Event) where
@@ -76,7 +76,7 @@ module _ (k : Chain) (A : List Event) (e : Event) where
       ∙ ap (λ (l : List Placed). l ++ keep waits (fresh (reverseAux A []) e))
       (keep-map (also e) waits (starts A)
       ∙ ap (map (also e)) (keep-on (λ g. waits (also e g)) (λ g. waits g && stays e g) (starts A)
-      (all (λ g. waits (also e g) ≡ (waits g && stays e g)) (waits-also e) (starts A)) ∙ sym (keep-and (stays e) waits (starts A))))
+      (all (waits-also e) (starts A)) ∙ sym (keep-and (stays e) waits (starts A))))
 
   -- one event more: those that stay, and the new one put into its place
   pub history-snoc : history k (A ++ (e ∷ []))

@@ -72,9 +72,9 @@ module _ {A : Type 0} where
 
   -- ---- facts of every element
 
-  pub all : (P : A → Type 0) → ((x : A) → P x) → (l : List A) → All P l
-  all P f [] = tt
-  all P f (x ∷ xs) = (f x, all P f xs)
+  pub all : {P : A → Type 0} → ((x : A) → P x) → (l : List A) → All P l
+  all f [] = tt
+  all f (x ∷ xs) = (f x, all f xs)
 
   pub all-map : {P Q : A → Type 0} → ((x : A) → P x → Q x) → (l : List A) → All P l → All Q l
   all-map f [] h = tt

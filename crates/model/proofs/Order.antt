@@ -1,6 +1,6 @@
 -- The order "by a number, the earlier first among equals" as a function: each element in turn is put into its place among those before it.
 -- It meets `InOrder`, which is how demand 3 states the order. Assumes nothing.
-use mathlib.Core.Path.{_≡_, refl, sym, ap, _∙_}
+use mathlib.Core.Path.{_≡_, refl, sym, ap, ap₂, _∙_}
 use Prim.Native.Nat.{ℕ, _≤_}
 use native.Mathlib.Omega.{arith}
 use mathlib.Core.Bool.{Bool}
@@ -66,4 +66,4 @@ module _ {A B : Type 0} where
   map-orderOn f key key′ h acc [] = refl
   map-orderOn f key key′ h acc (x ∷ xs) =
       map-orderOn f key key′ h (place key x acc) xs
-      ∙ rw (map-place f key key′ x acc (all (λ y. leb (key′ (f y)) (key′ (f x)) ≡ leb (key y) (key x)) (λ y. rw (h y, h x)) acc))
+      ∙ rw (map-place f key key′ x acc (all (λ y. ap₂ leb (h y) (h x)) acc))

@@ -95,7 +95,7 @@ module _ (t : List ℕ) (s : State) (h : Holds t s) where
   links-from : (k : Chain) (f : ℕ) → length (chainOf k s) ≤ f → linksFrom k t f 0 (word t (headWord k)) ≡ chainOf k s
   links-from k f n =
       ap (linksFrom k t f 0) (parts .lay k .links 0 (λ p. absurd (omega arith)))
-      ∙ linked-read k t 0 0 (chainOf k s) f (holds-linked t s h k) n (low k) (all (λ w. 0 ≤ w .wait) (λ w. zero-le) (chainOf k s)) (h .chained .rises k)
+      ∙ linked-read k t 0 0 (chainOf k s) f (holds-linked t s h k) n (low k) (all (λ w. zero-le) (chainOf k s)) (h .chained .rises k)
 
   pub links-is : (k : Chain) → links k t ≡ chainOf k s
   links-is k = links-from k (word t 0) (omega (arith, count-is, fits s (h .chained) k))

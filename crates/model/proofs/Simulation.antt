@@ -38,7 +38,7 @@ showing w m = record { shows = record { id = idBase + w .slot; routine = m .rout
 
 -- it depends only on the routines and the data
 pub shown-says : (sl sl′ : List Slot) → ((j : ℕ) → says (slotAt sl′ j) ≡ says (slotAt sl j)) → (l : List Link) → map (shown sl′) l ≡ map (shown sl) l
-shown-says sl sl′ h l = map-on (shown sl′) (shown sl) l (all (λ w. shown sl′ w ≡ shown sl w) (λ w. ap (showing w) (h (w .slot))) l)
+shown-says sl sl′ h l = map-on (shown sl′) (shown sl) l (all (λ w. ap (showing w) (h (w .slot))) l)
 
 same-id : (id i j : ℕ) → id ≡ idBase + i → eqb id (idBase + j) ≡ eqb j i
 same-id id i j e =
@@ -78,10 +78,10 @@ pub back-snoc : (A h : List Event) (e : Event) → reverseAux A [] ≡ h → rev
 back-snoc A h e b = reverseAux-append A (e ∷ []) [] ∙ ap {B = List Event} (λ l. e ∷ l) b
 
 pub kept-all : (l : List Waiting) → keep (λ w. true) l ≡ l
-kept-all l = keep-all (λ w. true) l (all (λ w. true ≡ true) (λ w. refl) l)
+kept-all l = keep-all (λ w. true) l (all (λ w. refl) l)
 
 pub kept-none : (l : List Waiting) → keep (λ w. false) l ≡ []
-kept-none l = keep-none (λ w. false) l (all (λ w. false ≡ false) (λ w. refl) l)
+kept-none l = keep-none (λ w. false) l (all (λ w. refl) l)
 
 nothing-calm : (k : Chain) → bringsDue k nothing ≡ false
 nothing-calm ByTicks = refl
@@ -164,7 +164,7 @@ module _ (s : State) (A h : List Event) (v : Agrees s A h) (id i : ℕ) (is : id
       (all-map (λ w p. ap (λ (y : Slot). showing w (says y)) (at-other sl i (w .slot) x (eqb-false (w .slot) i (not-true (eqb (w .slot) i) p))))
       (without i l) (all-passed (λ w. not (eqb (w .slot) i)) l))
       ∙ ap (map (shown sl)) (keep-on (λ w. not (eqb (w .slot) i)) (λ w. not (eqb id (idBase + w .slot))) l
-      (all (λ w. not (eqb (w .slot) i) ≡ not (eqb id (idBase + w .slot))) (λ w. ap not (sym (same-id id i (w .slot) is))) l))
+      (all (λ w. ap not (sym (same-id id i (w .slot) is))) l))
       ∙ sym (keep-map (shown sl) (λ w. not (eqb id (w .shows .id))) l)
 
   other-id : (j : ℕ) → eqb j i ≡ false → eqb id (idBase + j) ≡ false
@@ -201,7 +201,7 @@ module _ (s : State) (A h : List Event) (v : Agrees s A h) (id i : ℕ) (is : id
         let x = waitingAs k (slotAt (s .slots) i) interval r u in
         let sl = putAt (s .slots) i x in
         map-place (shown sl) (λ w. w .wait) (λ w. w .wait) (record { slot = i; wait = amount d }) (without i (chainOf k s))
-        (all (λ y. leb (y .wait) (amount d) ≡ leb (y .wait) (amount d)) (λ y. refl) (without i (chainOf k s)))
+        (all (λ y. refl) (without i (chainOf k s)))
         ∙ ap₂ (λ (n : ℕ) (y : Slot). place (λ w. w .wait)
         (record { shows = record { id = n; routine = y .routine; userData = y .userData }; wait = amount d }) (map (shown sl) (without i (chainOf k s))))
         (sym is) (at-same (s .slots) i x low high)

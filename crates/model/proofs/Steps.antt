@@ -41,7 +41,7 @@ record Ordered (k : Chain) (slots : List Slot) (l : List Link) : Type 0 where
 
 ordered : (s : State) → Chained s → (k : Chain) → Ordered k (s .slots) (chainOf k s)
 ordered s h ByTicks = record { meets = h .meets ByTicks; rises = h .rises ByTicks; within = h .bounded }
-ordered s h ByDate = record { meets = h .meets ByDate; rises = h .rises ByDate; within = all (λ w. Unit {0}) (λ w. tt) (s .dated) }
+ordered s h ByDate = record { meets = h .meets ByDate; rises = h .rises ByDate; within = all (λ w. tt) (s .dated) }
 
 chained : (s : State) → length (s .slots) ≤ 255 → Ordered ByTicks (s .slots) (s .ticking) → Ordered ByDate (s .slots) (s .dated) → Chained s
 chained s few t d = record { few = few; meets = meets-in; rises = rises-in; bounded = t .within }
