@@ -101,18 +101,17 @@ module _ (k : Chain) (e : Event) (calm : bringsDue k e ≡ false) where
 -- ---- a start
 
 module _ (k : Chain) (A : List Event) (id : ℕ) (s : Start) (here : isFor k (s .due) ≡ true) where
-  e : Event
+  abbrev e : Event
   e = changes id (some s)
 
-  x : Placed
-  x = record { begun = s; before = changes id (some s) ∷ reverseAux A []; after = [] }
+  abbrev x : Placed
+  x = record { begun = s; before = e ∷ reverseAux A []; after = [] }
 
-  calm : (k : Chain) → bringsDue k (changes id (some s)) ≡ false
+  calm : (k : Chain) → bringsDue k e ≡ false
   calm ByTicks = refl
   calm ByDate = refl
 
   own-shift : dueAt x ≡ shift k (reverseAux A []) + waiting x .wait
-  unfolding x
   own-shift = go k (s .due) here
     where
       go : (k : Chain) (d : Due) → isFor k d ≡ true
@@ -126,7 +125,6 @@ module _ (k : Chain) (A : List Event) (id : ℕ) (s : Start) (here : isFor k (s 
       → chainFrom k (A ++ (changes id (some s) ∷ []))
       ≡ place (λ w. w .wait) (record { shows = record { id = s .id; routine = s .routine; userData = s .userData }; wait = amount (s .due) })
       (keep (λ w. not (eqb id (w .shows .id))) (chainFrom k A))
-  unfolding e x own-shift
   chain-start not-yet =
       let h = reverseAux A [] in
       let M = map (also e) (keep (stays e) (history k A)) in
@@ -139,11 +137,12 @@ module _ (k : Chain) (A : List Event) (id : ℕ) (s : Start) (here : isFor k (s 
       ∙ ap (λ (n : ℕ). place (λ w. w .wait) (record { shows = entry x; wait = n }) (map waiting M)) (amount-left (s .due))
       ∙ ap (place (λ w. w .wait) (record { shows = entry x; wait = amount (s .due) })) (kept k A e ∙ only-ends k e (calm k) h (chainFrom k A))
     where
-      only : keep (inChain k) (keep waits (fresh (reverseAux A []) (changes id (some s)))) ≡ x ∷ []
+      only : keep (inChain k) (keep waits (fresh (reverseAux A []) e)) ≡ x ∷ []
       only = ap (λ (b : Bool). keep (inChain k) (cond (not b) (x ∷ []) [])) not-yet ∙ ap (λ (b : Bool). cond b (x ∷ []) []) here
 
-      same : (g : Placed) → Waits k (reverseAux A []) g → leb (waiting (also (changes id (some s)) g) .wait) (waiting x .wait) ≡ leb (dueAt g) (dueAt x)
+      same : (g : Placed) → Waits k (reverseAux A []) g → leb (waiting (also e g) .wait) (waiting x .wait) ≡ leb (dueAt g) (dueAt x)
       same g v =
-          ap (λ (w : Waiting). leb (w .wait) (waiting x .wait)) (shown-also (reverseAux A []) (changes id (some s)) g k v ∙ lowered-same k (changes id (some s)) (calm k) (waiting g))
-          ∙ same-order (shift k (reverseAux A [])) (waiting g .wait) (waiting x .wait)
-          ∙ sym (rw (due-shift (reverseAux A []) (changes id (some s)) g k v, own-shift))
+          let h = reverseAux A [] in
+          ap (λ (w : Waiting). leb (w .wait) (waiting x .wait)) (shown-also h e g k v ∙ lowered-same k e (calm k) (waiting g))
+          ∙ same-order (shift k h) (waiting g .wait) (waiting x .wait)
+          ∙ sym (rw (due-shift h e g k v, own-shift))

@@ -49,7 +49,9 @@ step-onward c p q = go (c .isSet) refl
         (λ e.
         let full : c .perSecond ≤ suc (c .ticksInto) = ltb-false (suc (c .ticksInto)) (c .perSecond) e in
         cases (ltb (c .second) lastSecond)
-        (λ f. rw (r, e, f) (ap {B = Option ℕ} some (omega (arith, suc-mul (c .second) (c .perSecond), mul-le-mul-right (c .perSecond) (ltb-true (c .second) lastSecond f)))))
+        (λ f.
+        let room = mul-le-mul-right (c .perSecond) (ltb-true (c .second) lastSecond f) in
+        rw (r, e, f) (ap {B = Option ℕ} some (omega (arith, suc-mul (c .second) (c .perSecond)))))
         (λ f.
         let g : c .second ≡ lastSecond = omega (arith, ltb-false (c .second) lastSecond f) in
         let k : c .second * c .perSecond ≡ lastSecond * c .perSecond = ap (λ (n : ℕ). n * c .perSecond) g in

@@ -4,7 +4,7 @@ use mathlib.Core.Path.{_≡_, refl, sym, ap, ap₂, _∙_, subst}
 use Prim.Native.Nat.{ℕ, suc, _+_, _-_, _*_, _≤_, _<_, min}
 use native.Mathlib.Nat.{mul-le-mul-right}
 use native.Mathlib.Omega.{arith}
-use mathlib.Core.Bool.{Bool, true, false, cond, not, _&&_}
+use mathlib.Core.Bool.{Bool, true, false, not, _&&_}
 use mathlib.Core.Option.{Option, none, some}
 use mathlib.Core.List.{List, [], _∷_, _++_, map, reverseAux, map-map, map-append}
 use lib.Dec.{leb, ltb}
@@ -41,10 +41,13 @@ module _ (s : State) (A h : List Event) (v : Agrees s A h) (e : Event) (quiet : 
     dated-fires : map (listed (s .slots)) (keep (λ w. leb (w .wait) d) (s .dated))
         ≡ map (λ w. w .shows) (keep (dueNow ByDate e (reverseAux A [])) (chainFrom ByDate A))
     dated-fires =
-        sym (ap (λ (l : List Waiting). map (λ w. w .shows) (keep (dueNow ByDate e (reverseAux A [])) l)) (sym (v .chain ByDate))
-        ∙ ap (map (λ w. w .shows)) (keep-map (shown (s .slots)) (dueNow ByDate e (reverseAux A [])) (s .dated)
-        ∙ ap (map (shown (s .slots))) (keep-on (λ w. dueNow ByDate e (reverseAux A []) (shown (s .slots) w)) (λ w. leb (w .wait) d) (s .dated) (due-is (s .dated) cut)))
-        ∙ map-map (λ w. w .shows) (shown (s .slots)) (keep (λ w. leb (w .wait) d) (s .dated)))
+        let sl = s .slots in
+        let l = s .dated in
+        let due : Waiting → Bool = dueNow ByDate e (reverseAux A []) in
+        sym (ap (λ (c : List Waiting). map (λ w. w .shows) (keep due c)) (sym (v .chain ByDate))
+        ∙ ap (map (λ w. w .shows)) (keep-map (shown sl) due l
+        ∙ ap (map (shown sl)) (keep-on (λ w. due (shown sl w)) (λ w. leb (w .wait) d) l (due-is l cut)))
+        ∙ map-map (λ w. w .shows) (shown sl) (keep (λ w. leb (w .wait) d) l))
 
     dated-left : map (shown (s .slots)) (keep (λ w. ltb d (w .wait)) (s .dated)) ≡ chainFrom ByDate (A ++ (e ∷ []))
     dated-left =
@@ -190,5 +193,6 @@ module _ (s : State) (A h : List Event) (v : Agrees s A h) (f : WellFormed s) wh
         ≡ map (λ w. w .shows) (keep (dueNow ByTicks oneTick (reverseAux A [])) (chainFrom ByTicks A))
         ++ map (λ w. w .shows) (keep (dueNow ByDate oneTick (reverseAux A [])) (chainFrom ByDate A))
     tick-fires =
-        map-append (listed (s .slots)) (keep (λ w. leb (w .wait) 0) (map closer (s .ticking))) (keep (λ w. leb (w .wait) (clockStep (s .clock) .second)) (s .dated))
-        ∙ ap₂ (λ (a b : List Fired). a ++ b) ticks-fire (dated-fires s A h v oneTick (λ j. refl) (clockStep (s .clock) .second) refl refl tick-cut)
+        let now = clockStep (s .clock) .second in
+        map-append (listed (s .slots)) (keep (λ w. leb (w .wait) 0) (map closer (s .ticking))) (keep (λ w. leb (w .wait) now) (s .dated))
+        ∙ ap₂ (λ (a b : List Fired). a ++ b) ticks-fire (dated-fires s A h v oneTick (λ j. refl) now refl refl tick-cut)
