@@ -21,7 +21,7 @@ use Rattle.model.proofs.Slots.{Memo, memo, memo-idleAll}
 use Rattle.model.proofs.WellFormed.{WellFormed}
 use Rattle.model.proofs.ClockSteps.{clock-unset, clock-isSet, clock-perSecond, clock-into}
 use Rattle.model.proofs.HistoryLaws.{fresh, dueNow}
-use Rattle.model.proofs.ChainLaws.{chainFrom, map-same, chain-other, chain-calm}
+use Rattle.model.proofs.ChainLaws.{chainFrom, remains, map-same, chain-other, chain-calm}
 use Rattle.model.proofs.ClockLaws.{onward, one-later, standing, at-or-past, step-onward}
 use Rattle.model.proofs.Simulation.{says, shown-says, Remembers, Agrees, back-snoc, kept-all, kept-none}
 
@@ -51,15 +51,15 @@ module _ (s : State) (A h : List Event) (v : Agrees s A h) (e : Event) (quiet : 
 
     dated-left : map (shown (s .slots)) (keep (λ w. ltb d (w .wait)) (s .dated)) ≡ chainFrom ByDate (A ++ (e ∷ []))
     dated-left =
+        let sl = s .slots in
+        let l = s .dated in
+        let left : Waiting → Bool = remains ByDate e (reverseAux A []) in
         sym (chain-other ByDate A e none-fresh
         ∙ map-same (λ w. w) (λ w. refl) (keep left (chainFrom ByDate A))
         ∙ ap (keep left) (sym (v .chain ByDate))
-        ∙ keep-map (shown (s .slots)) left (s .dated)
-        ∙ ap (map (shown (s .slots))) (keep-on (λ w. left (shown (s .slots) w)) (λ w. ltb d (w .wait)) (s .dated)
-        (all-map (λ w p. ap₂ (λ (a b : Bool). not a && not b) (quiet (idBase + w .slot)) p ∙ sym (not-leb (w .wait) d)) (s .dated) (due-is (s .dated) cut))))
-      where
-        left : Waiting → Bool
-        left w = not (ends (w .shows .id) e) && not (dueNow ByDate e (reverseAux A []) w)
+        ∙ keep-map (shown sl) left l
+        ∙ ap (map (shown sl)) (keep-on (λ w. left (shown sl w)) (λ w. ltb d (w .wait)) l
+        (all-map (λ w p. ap₂ (λ (a b : Bool). not a && not b) (quiet (idBase + w .slot)) p ∙ sym (not-leb (w .wait) d)) l (due-is l cut))))
 
 -- the clock in ticks and a state's clock say the same of dates above the second
 cut-clock : (c : Clock) (h : List Event) (w : ℕ) → perSecond h ≡ c .perSecond → clockAfter 0 h ≡ standing c → c .ticksInto < c .perSecond

@@ -42,7 +42,8 @@ record SoundAndAgreeing (t : List ℕ) (es h : List Event) : Type 0 where
 
 -- ---- a table written by an accepted call
 
-laid-holds : (w : List ℕ) (n t : ℕ) → firstOf (refusals (not (sound w)) (read w) (layOut n t)) ≡ 0 → Holds (over (laidOut (length w) n t) w) (laidOut (length w) n t)
+laid-holds : (w : List ℕ) (n t : ℕ) → firstOf (refusals (not (sound w)) (read w) (layOut n t)) ≡ 0
+    → Holds (over (laidOut (length w) n t) w) (laidOut (length w) n t)
 laid-holds w n t e =
     let p = accepted-facts (not (sound w)) (read w) (layOut n t) e in
     written-holds w (laidOut (length w) n t) (chained-laid (length w) n t (p .slots-high)) (omega (arith, length-laid (length w) n t, p .fits)) refl
@@ -54,7 +55,8 @@ effect-holds t ok c e = go (isLayOut c) refl
     st : firstOf (refusals (not (sound t)) (read t) c) ≡ 0
     st = sym (status-is t c) ∙ e
 
-    lay : (c : Call) → isLayOut c ≡ true → firstOf (refusals (not (sound t)) (read t) c) ≡ 0 → Holds (over (effect (read t) c .state) t) (effect (read t) c .state)
+    lay : (c : Call) → isLayOut c ≡ true → firstOf (refusals (not (sound t)) (read t) c) ≡ 0
+        → Holds (over (effect (read t) c .state) t) (effect (read t) c .state)
     lay (layOut n k) l z = laid-holds t n k z
     lay (create a) l z = clash (sym l)
     lay (ident a) l z = clash (sym l)
@@ -72,7 +74,8 @@ effect-holds t ok c e = go (isLayOut c) refl
     go true l = lay c l st
     go false l =
         let s = effect (read t) c .state in
-        over-holds t (read t) s (sound-holds t ok) (kept (read t) (sound-well-formed t ok) (not (sound t)) c st .chained) (slots-kept (read t) c l) (effect-room (read t) c)
+        let formed = kept (read t) (sound-well-formed t ok) (not (sound t)) c st in
+        over-holds t (read t) s (sound-holds t ok) (formed .chained) (slots-kept (read t) c l) (effect-room (read t) c)
 
 -- ---- between two calls
 
@@ -144,22 +147,23 @@ module _ (t : List ℕ) (es h : List Event) (g : SoundAndAgreeing t es h) (c : C
 abbrev more : List Event → List ℕ → List Call → List Event
 more h t xs = eventsFrom h (acceptedIn t xs)
 
-run : (xs : List Call) (t : List ℕ) (es h : List Event) → SoundAndAgreeing t es h → SoundAndAgreeing (after t xs) (es ++ more h t xs) (reverseAux (more h t xs) h)
-run [] t es h g = subst (λ (l : List Event). SoundAndAgreeing t l h) (sym (append-nil es)) g
+run : (xs : List Call) (t : List ℕ) (es h : List Event) → SoundAndAgreeing t es h
+    → SoundAndAgreeing (after t xs) (es ++ more h t xs) (reverseAux (more h t xs) h)
+run [] t es h g = rw append-nil g
 run (c ∷ xs) t es h g =
+    let u = outcome t c .table in
     cases (eqb (statusOn t c) 0)
     (λ e.
     let z = eqb-true (statusOn t c) 0 e in
-    let o : outcome t c .table ≡ over (effect (read t) c .state) t = ap (λ (x : Outcome). x .table) (outcome-accepted t c z) in
+    let o : u ≡ over (effect (read t) c .state) t = ap (λ (x : Outcome). x .table) (outcome-accepted t c z) in
     let b : eqb (outcome t c .status) 0 ≡ true = ap (λ (n : ℕ). eqb n 0) (outcome-status t c) ∙ e in
-    let u = outcome t c .table in
-    let step : SoundAndAgreeing u (es ++ (eventOf h c ∷ [])) (eventOf h c ∷ h) = subst (λ (x : List ℕ). SoundAndAgreeing x (es ++ (eventOf h c ∷ [])) (eventOf h c ∷ h)) (sym o) (kept-by-call t es h g c z) in
-    rw b (subst (λ (l : List Event). SoundAndAgreeing (after u xs) l (reverseAux (more (eventOf h c ∷ h) u xs) (eventOf h c ∷ h))) (append-assoc es (eventOf h c ∷ []) (more (eventOf h c ∷ h) u xs))
-    (run xs u (es ++ (eventOf h c ∷ [])) (eventOf h c ∷ h) step)))
+    let h′ : List Event = eventOf h c ∷ h in
+    let step : SoundAndAgreeing u (es ++ (eventOf h c ∷ [])) h′ = rw o (kept-by-call t es h g c z) in
+    rw b (rw append-assoc at (run xs u (es ++ (eventOf h c ∷ [])) h′ step)))
     (λ e.
-    let o : outcome t c .table ≡ t = ap (λ (x : Outcome). x .table) (outcome-refused t c (eqb-false (statusOn t c) 0 e)) in
+    let o : u ≡ t = ap (λ (x : Outcome). x .table) (outcome-refused t c (eqb-false (statusOn t c) 0 e)) in
     let b : eqb (outcome t c .status) 0 ≡ false = ap (λ (n : ℕ). eqb n 0) (outcome-status t c) ∙ e in
-    rw b (run xs (outcome t c .table) es h (subst (λ (x : List ℕ). SoundAndAgreeing x es h) (sym o) g)))
+    rw b (run xs u es h (subst (λ (x : List ℕ). SoundAndAgreeing x es h) (sym o) g)))
 
 -- the table that a lay out leaves
 begins : (w : List ℕ) (n t : ℕ) → statusOn w (layOut n t) ≡ 0 → SoundAndAgreeing (outcome w (layOut n t) .table) (laidOutFor t ∷ []) (laidOutFor t ∷ [])
