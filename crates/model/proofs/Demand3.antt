@@ -1,9 +1,9 @@
 -- Demand 3, for every slice, every accepted lay out on it, and every list of calls. By induction on the list: the table stays sound, and
 -- the state that it holds agrees with the events of the accepted calls. Assumes nothing.
-use mathlib.Core.Path.{_≡_, refl, sym, ap, ap₂, _∙_, subst}
+use mathlib.Core.Path.{_≡_, refl, sym, ap, ap₂, _∙_}
 use Prim.Native.Nat.{ℕ}
 use native.Mathlib.Omega.{arith}
-use mathlib.Core.Bool.{Bool, true, false, cond, not}
+use mathlib.Core.Bool.{Bool, true, false, not}
 use mathlib.Core.List.{List, [], _∷_, _++_, map, reverse, reverseAux, append-assoc, append-nil}
 use lib.ListN.{length, length-map}
 use lib.Dec.{eqb}
@@ -12,7 +12,7 @@ use Rattle.model.specs.Lists.{keep}
 use Rattle.model.specs.Status.{firstOf}
 use Rattle.model.specs.Calls.{Call, layOut, create, ident, cancel, delete, fireAfter, fireWhen, reset, ticksLeft, tick, setClock, getClock}
 use Rattle.model.specs.Kinds.{Chain, ByTicks, ByDate}
-use Rattle.model.specs.State.{State, listed}
+use Rattle.model.specs.State.{listed}
 use Rattle.model.specs.Directives.{refusals, laidOut, effect}
 use Rattle.model.specs.Words.{first, over, word, field, along, links, read}
 use Rattle.model.specs.Sound.{sound}
@@ -112,8 +112,7 @@ module _ (t : List ℕ) (es h : List Event) (g : SoundAndAgreeing t es h) (c : C
       let hold = effect-holds t (g .is-sound) c e in
       record {
         is-sound = well-formed-sound (over s t) s hold (kept (read t) f (not (sound t)) c st);
-        agrees = subst (λ (x : State). Agrees x (es ++ (eventOf h c ∷ [])) (eventOf h c ∷ h)) (sym (read-back (over s t) s hold))
-            (agrees-step (read t) es h (g .agrees) f (not (sound t)) c st);
+        agrees = rw (read-back (over s t) s hold) (agrees-step (read t) es h (g .agrees) f (not (sound t)) c st);
       }
 
   answers-now : Answers t es c (eventOf h c)
@@ -163,7 +162,7 @@ run (c ∷ xs) t es h g =
     (λ e.
     let o : u ≡ t = ap (λ (x : Outcome). x .table) (outcome-refused t c (eqb-false (statusOn t c) 0 e)) in
     let b : eqb (outcome t c .status) 0 ≡ false = ap (λ (n : ℕ). eqb n 0) (outcome-status t c) ∙ e in
-    rw b (run xs u es h (subst (λ (x : List ℕ). SoundAndAgreeing x es h) (sym o) g)))
+    rw b (run xs u es h (rw o g)))
 
 -- the table that a lay out leaves
 begins : (w : List ℕ) (n t : ℕ) → statusOn w (layOut n t) ≡ 0 → SoundAndAgreeing (outcome w (layOut n t) .table) (laidOutFor t ∷ []) (laidOutFor t ∷ [])
@@ -173,9 +172,9 @@ begins w n t e =
     let s = laidOut (length w) n t in
     let hold = laid-holds w n t st in
     let o : outcome w (layOut n t) .table ≡ over s w = ap (λ (x : Outcome). x .table) (outcome-accepted w (layOut n t) e) in
-    subst (λ (x : List ℕ). SoundAndAgreeing x (laidOutFor t ∷ []) (laidOutFor t ∷ [])) (sym o) (record {
+    rw o (record {
       is-sound = well-formed-sound (over s w) s hold (laid-well-formed (length w) n t (p .slots-low) (p .slots-high) (p .ticks-low) (p .ticks-high));
-      agrees = subst (λ (x : State). Agrees x (laidOutFor t ∷ []) (laidOutFor t ∷ [])) (sym (read-back (over s w) s hold)) (agrees-laid (length w) n t);
+      agrees = rw (read-back (over s w) s hold) (agrees-laid (length w) n t);
     })
 
 -- the table and the events after an accepted lay out and any calls
@@ -185,8 +184,7 @@ after-calls w n t e xs =
     let t₀ = outcome w (layOut n t) .table in
     let h₀ : List Event = laidOutFor t ∷ [] in
     let g = run xs t₀ h₀ h₀ (begins w n t (sym (outcome-status w (layOut n t)) ∙ e)) in
-    subst (λ (cs : List Call). SoundAndAgreeing (after t₀ xs) (eventsFrom [] cs) (reverse (eventsFrom [] cs)))
-    (ap (λ (b : Bool). cond b (layOut n t ∷ acceptedIn t₀ xs) (acceptedIn t₀ xs)) (sym (eq-eqb (outcome w (layOut n t) .status) 0 e))) g
+    rw (eq-eqb (outcome w (layOut n t) .status) 0 e) g
 
 pub demand3 : Demand3
 demand3 w n t e cs =

@@ -120,15 +120,18 @@ pub record Waits (k : Chain) (h : List Event) (g : Placed) : Type 0 where
 
 pub waits-all : (k : Chain) (A : List Event) → All (Waits k (reverseAux A [])) (history k A)
 waits-all k A =
-    all-orderOn (Waits k (reverseAux A [])) dueAt [] (keep (inChain k) W) tt
-    (all-map (λ g p. record { whole = p .0 .0; not-due = not-true (wasDue g) (both (not (wasEnded g)) (not (wasDue g)) (p .0 .1) .1); in-chain = p .1 }) (keep (inChain k) W)
-    (all-zip (λ g. Whole (reverseAux A []) g × (waits g ≡ true)) (λ g. inChain k g ≡ true) (keep (inChain k) W)
-    (all-keep (λ g. Whole (reverseAux A []) g × (waits g ≡ true)) (inChain k) W
-    (all-zip (Whole (reverseAux A [])) (λ g. waits g ≡ true) W (all-keep (Whole (reverseAux A [])) waits (starts A) (whole [] A)) (all-passed waits (starts A))))
+    let h = reverseAux A [] in
+    let W = keep waits (starts A) in
+    all-orderOn (Waits k h) dueAt [] (keep (inChain k) W) tt
+    (all-map (λ g p. record {
+      whole = p .0 .0;
+      not-due = not-true (wasDue g) (both (not (wasEnded g)) (not (wasDue g)) (p .0 .1) .1);
+      in-chain = p .1;
+    }) (keep (inChain k) W)
+    (all-zip (λ g. Whole h g × (waits g ≡ true)) (λ g. inChain k g ≡ true) (keep (inChain k) W)
+    (all-keep (λ g. Whole h g × (waits g ≡ true)) (inChain k) W
+    (all-zip (Whole h) (λ g. waits g ≡ true) W (all-keep (Whole h) waits (starts A) (whole [] A)) (all-passed waits (starts A))))
     (all-passed (inChain k) W)))
-  where
-    W : List Placed
-    W = keep waits (starts A)
 
 -- ---- as it is shown: id, routine, data, and ticks left or date
 
@@ -173,7 +176,8 @@ module _ (h : List Event) (e : Event) (g : Placed) where
   shown-also k v = go k (g .begun .due) (v .in-chain)
     where
       go : (k : Chain) (d : Due) → isFor k d ≡ true
-          → _≡_ {A = Waiting} (record { shows = entry g; wait = remaining d (ticks (g .after ++ (e ∷ []))) }) (lowered k e (record { shows = entry g; wait = remaining d (ticks (g .after)) }))
+          → _≡_ {A = Waiting} (record { shows = entry g; wait = remaining d (ticks (g .after ++ (e ∷ []))) })
+          (lowered k e (record { shows = entry g; wait = remaining d (ticks (g .after)) }))
       go ByTicks (afterTicks n) f = ap {B = Waiting} (λ (m : ℕ). record { shows = entry g; wait = m }) (omega (arith, count-snoc isTick (g .after) e))
       go ByTicks (atDate d) f = clash (sym f)
       go ByDate (afterTicks n) f = clash (sym f)

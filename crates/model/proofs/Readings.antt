@@ -120,7 +120,8 @@ listed-of es e g p f = record {
     now false true c f = clash (sym f)
     now false false c f = f
 
-pub only-due : (k : Chain) (es : List Event) (e : Event) (l : List Placed) → InOrder dueAt (keep (inChain k) (keep (fires e) (starts es))) l → All (Listed es e) l
+pub only-due : (k : Chain) (es : List Event) (e : Event) (l : List Placed) → InOrder dueAt (keep (inChain k) (keep (fires e) (starts es))) l
+    → All (Listed es e) l
 only-due k es e l o =
     subst (All (Listed es e)) (one-order dueAt (keep (inChain k) S) (order dueAt (keep (inChain k) S)) l (order-in-order dueAt (keep (inChain k) S)) o)
     (all-orderOn (Listed es e) dueAt [] (keep (inChain k) S) tt (all-keep (Listed es e) (inChain k) S
@@ -170,7 +171,8 @@ module _ (P Q : List Event) (id timer n r u : ℕ) where
       never false b = refl
 
   pub not-after : (e : Event) → n ≤ ticks Q → fires e (startAt P id (forTicks timer n r u) Q) ≡ false
-  not-after e h = ap (λ (b : Bool). (not (any (ends timer) Q) && not b) && leb n (ticks (Q ++ (e ∷ [])))) (le-leb n (ticks Q) h) ∙ none (not (any (ends timer) Q))
+  not-after e h =
+      ap (λ (b : Bool). (not (any (ends timer) Q) && not b) && leb n (ticks (Q ++ (e ∷ [])))) (le-leb n (ticks Q) h) ∙ none (not (any (ends timer) Q))
     where
       none : (a : Bool) → ((a && false) && leb n (ticks (Q ++ (e ∷ [])))) ≡ false
       none true = refl
@@ -187,7 +189,8 @@ mem-place key x [] = List·Memᴰ·head refl
 mem-place key x (y ∷ ys) = cases (goesBehind (key x) (key y)) (λ f. rw f (List·Memᴰ·tail (mem-place key x ys))) (λ f. rw f (List·Memᴰ·head refl))
 
 mem-place-tail : {A : Type 0} (key : A → ℕ) (x : A) {z : A} (l : List A) → List·Memᴰ z l → List·Memᴰ z (place key x l)
-mem-place-tail key x (y ∷ ys) (List·Memᴰ·head q) = cases (goesBehind (key x) (key y)) (λ f. rw f (List·Memᴰ·head q)) (λ f. rw f (List·Memᴰ·tail (List·Memᴰ·head q)))
+mem-place-tail key x (y ∷ ys) (List·Memᴰ·head q) =
+    cases (goesBehind (key x) (key y)) (λ f. rw f (List·Memᴰ·head q)) (λ f. rw f (List·Memᴰ·tail (List·Memᴰ·head q)))
 mem-place-tail key x (y ∷ ys) (List·Memᴰ·tail m) =
     cases (goesBehind (key x) (key y)) (λ f. rw f (List·Memᴰ·tail (mem-place-tail key x ys m))) (λ f. rw f (List·Memᴰ·tail (List·Memᴰ·tail m)))
 
@@ -219,7 +222,8 @@ fires-listed k P Q id s e l here f o =
 
 -- ---- 6. A set clock changes no interval timer's due tick, nor its ticks left.
 
-pub clock-moves-no-tick : (d n : ℕ) (g : Placed) → g .begun .due ≡ afterTicks n → (dueAt (also (clockSetTo d) g) ≡ dueAt g) × (waiting (also (clockSetTo d) g) .wait ≡ waiting g .wait)
+pub clock-moves-no-tick : (d n : ℕ) (g : Placed) → g .begun .due ≡ afterTicks n
+    → (dueAt (also (clockSetTo d) g) ≡ dueAt g) × (waiting (also (clockSetTo d) g) .wait ≡ waiting g .wait)
 clock-moves-no-tick d n g e = (refl, ap (remaining (g .begun .due)) (count-snoc isTick (g .after) (clockSetTo d) ∙ omega arith))
 
 -- ---- 7. On the words: what an accepted tick writes to its list.
@@ -248,8 +252,11 @@ pub lists-only : (w : List ℕ) (n t : ℕ) → outcome w (layOut n t) .status �
 lists-only w n t ok xs c accepted =
     let es = eventsAfter w (layOut n t ∷ xs) in
     let e = eventOf (reverse es) c in
-    let a = demand3 w n t ok (xs ++ (c ∷ [])) .answers xs [] c refl .lists accepted in
-    (a .ticking ++ a .dated, a .entries, all-append (Listed es e) (a .ticking) (a .dated) (only-due ByTicks es e (a .ticking) (a .ticking-order)) (only-due ByDate es e (a .dated) (a .dated-order)))
+    let a = demand3 w n t ok (xs ++ (c ∷ [])) .answers xs [] c refl .lists accepted in (
+      a .ticking ++ a .dated,
+      a .entries,
+      all-append (Listed es e) (a .ticking) (a .dated) (only-due ByTicks es e (a .ticking) (a .ticking-order)) (only-due ByDate es e (a .dated) (a .dated-order)),
+    )
 
 -- An accepted set clock leaves the interval chain as it is: the same slots in the same order, with the same ticks left.
 pub set-clock-keeps-ticks : (t : List ℕ) → sound t ≡ true → (w : WallTime) (list : List ℕ) → outcome t (setClock w list) .status ≡ 0
