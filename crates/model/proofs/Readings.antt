@@ -255,7 +255,8 @@ lists-only w n t ok xs c accepted =
     let a = demand3 w n t ok (xs ++ (c ∷ [])) .answers xs [] c refl .lists accepted in (
       a .ticking ++ a .dated,
       a .entries,
-      all-append (Listed es e) (a .ticking) (a .dated) (only-due ByTicks es e (a .ticking) (a .ticking-order)) (only-due ByDate es e (a .dated) (a .dated-order)),
+      all-append (Listed es e) (a .ticking) (a .dated) (only-due ByTicks es e (a .ticking) (a .ticking-order))
+          (only-due ByDate es e (a .dated) (a .dated-order)),
     )
 
 -- An accepted set clock leaves the interval chain as it is: the same slots in the same order, with the same ticks left.

@@ -18,7 +18,7 @@ use Rattle.model.specs.Demand.{shown}
 use Rattle.model.proofs.ListLaws.{cases, clash, all, all-map, all-passed, keep-all, keep-none, keep-map, keep-on, map-on, map-place}
 use Rattle.model.proofs.Slots.{at-same, at-other, field-put, Memo, memo, put-any, put-at, blank}
 use Rattle.model.proofs.Chains.{other, both-chains}
-use Rattle.model.proofs.Steps.{clock-started}
+use Rattle.model.proofs.Steps.{rechain-slots, rechain-clock, rechain-own, rechain-other, stopped-chain}
 use Rattle.model.proofs.ChainLaws.{chainFrom, amount, bringsDue, chain-calm, chain-start}
 use Rattle.model.proofs.ClockLaws.{standing}
 
@@ -103,7 +103,8 @@ module _ (s : State) (A h : List Event) (v : Agrees s A h) where
   }
 
   -- slot i, which says as much as x, becomes x
-  pub on-stored : (i : ℕ) (x : Slot) → says x ≡ says (slotAt (s .slots) i) → lastByTicks (x .kind) ≡ false → Agrees (stored s i x) (A ++ (nothing ∷ [])) (nothing ∷ h)
+  pub on-stored : (i : ℕ) (x : Slot) → says x ≡ says (slotAt (s .slots) i) → lastByTicks (x .kind) ≡ false
+      → Agrees (stored s i x) (A ++ (nothing ∷ [])) (nothing ∷ h)
   on-stored i x same idle = record {
     back = back-snoc A h nothing (v .back);
     chain = λ k. stays k ∙ v .chain k ∙ sym (chain-nothing k);
@@ -152,12 +153,12 @@ agrees-laid room n t = record {
 -- ---- calls on one timer
 
 module _ (s : State) (A h : List Event) (v : Agrees s A h) (id i : ℕ) (is : id ≡ idBase + i) (low : 0 < i) (high : i ≤ length (s .slots)) where
-  rest : List Waiting → List Waiting
+  -- what is left of a chain as it is shown, without the timer
+  abbrev rest : List Waiting → List Waiting
   rest l = keep (λ w. not (eqb id (w .shows .id))) l
 
   -- a chain without the slot that is written
   without-slot : (x : Slot) (l : List Link) → map (shown (putAt (s .slots) i x)) (without i l) ≡ rest (map (shown (s .slots)) l)
-  unfolding rest
   without-slot x l =
       let sl = s .slots in
       map-on (shown (putAt sl i x)) (shown sl) (without i l)
@@ -176,7 +177,6 @@ module _ (s : State) (A h : List Event) (v : Agrees s A h) (id i : ℕ) (is : id
 
   -- slot i becomes x and waits no more
   pub on-stop : (x : Slot) → Remembers h i (memo x) → Agrees (stopped s i x) (A ++ (changes id none ∷ [])) (changes id none ∷ h)
-  unfolding rest
   on-stop x remember = record {
     back = back-snoc A h (changes id none) (v .back);
     chain = each;
@@ -194,67 +194,64 @@ module _ (s : State) (A h : List Event) (v : Agrees s A h) (id i : ℕ) (is : id
 
   -- slot i starts to wait in chain k
   module _ (k : Chain) (d : Due) (interval r u : ℕ) (here : isFor k d ≡ true) (soon : (b : List Event) → dueWithin d b [] ≡ false) where
-    own : map (shown (putAt (s .slots) i (waitingAs k (slotAt (s .slots) i) interval r u))) (place (λ w. w .wait) (record { slot = i; wait = amount d }) (without i (chainOf k s)))
-        ≡ chainFrom k (A ++ (starting id d r u ∷ []))
-    unfolding rest
-    own =
-        let x = waitingAs k (slotAt (s .slots) i) interval r u in
-        let sl = putAt (s .slots) i x in
-        map-place (shown sl) (λ w. w .wait) (λ w. w .wait) (record { slot = i; wait = amount d }) (without i (chainOf k s))
-        (all (λ y. refl) (without i (chainOf k s)))
-        ∙ ap₂ (λ (n : ℕ) (y : Slot). place (λ w. w .wait)
-        (record { shows = record { id = n; routine = y .routine; userData = y .userData }; wait = amount d }) (map (shown sl) (without i (chainOf k s))))
-        (sym is) (at-same (s .slots) i x low high)
-        ∙ ap (place (λ w. w .wait) (record { shows = record { id = id; routine = r; userData = u }; wait = amount d })) (without-slot x (chainOf k s) ∙ ap rest (v .chain k))
-        ∙ sym (chain-start k A id (beginning id d r u) here (soon (starting id d r u ∷ reverseAux A [])))
+    abbrev x : Slot
+    x = waitingAs k (slotAt (s .slots) i) interval r u
 
-    off : (j : Chain) → isFor j d ≡ false
-        → map (shown (putAt (s .slots) i (waitingAs k (slotAt (s .slots) i) interval r u))) (without i (chainOf j s)) ≡ chainFrom j (A ++ (starting id d r u ∷ []))
-    unfolding rest
+    abbrev new : Link
+    new = record { slot = i; wait = amount d }
+
+    abbrev e : Event
+    e = starting id d r u
+
+    abbrev after : State
+    after = started k s i (amount d) interval r u
+
+    own : map (shown (putAt (s .slots) i x)) (place (λ w. w .wait) new (without i (chainOf k s))) ≡ chainFrom k (A ++ (e ∷ []))
+    own =
+        let sl = putAt (s .slots) i x in
+        let others = without i (chainOf k s) in
+        map-place (shown sl) (λ w. w .wait) (λ w. w .wait) new others (all (λ y. refl) others)
+        ∙ ap₂ (λ (n : ℕ) (y : Slot). place (λ w. w .wait)
+        (record { shows = record { id = n; routine = y .routine; userData = y .userData }; wait = amount d }) (map (shown sl) others))
+        (sym is) (at-same (s .slots) i x low high)
+        ∙ ap (place (λ w. w .wait) (record { shows = record { id = id; routine = r; userData = u }; wait = amount d }))
+        (without-slot x (chainOf k s) ∙ ap rest (v .chain k))
+        ∙ sym (chain-start k A id (beginning id d r u) here (soon (e ∷ reverseAux A [])))
+
+    off : (j : Chain) → isFor j d ≡ false → map (shown (putAt (s .slots) i x)) (without i (chainOf j s)) ≡ chainFrom j (A ++ (e ∷ []))
     off j away =
-        without-slot (waitingAs k (slotAt (s .slots) i) interval r u) (chainOf j s) ∙ ap rest (v .chain j)
-        ∙ sym (chain-calm j (starting id d r u) (stop-calm (some (beginning id d r u)) j) A
-        (ap (λ (b : Bool). keep (inChain j) (cond (not b) (p ∷ []) [])) (soon (starting id d r u ∷ reverseAux A [])) ∙ ap (λ (b : Bool). cond b (p ∷ []) []) away))
-      where
-        p : Placed
-        p = record { begun = beginning id d r u; before = starting id d r u ∷ reverseAux A []; after = [] }
+        let p : Placed = record { begun = beginning id d r u; before = e ∷ reverseAux A []; after = [] } in
+        without-slot x (chainOf j s) ∙ ap rest (v .chain j)
+        ∙ sym (chain-calm j e (stop-calm (some (beginning id d r u)) j) A
+        (ap (λ (b : Bool). keep (inChain j) (cond (not b) (p ∷ []) [])) (soon (e ∷ reverseAux A [])) ∙ ap (λ (b : Bool). cond b (p ∷ []) []) away))
 
     -- the slot remembers the start, where that is by ticks
     pub on-start : (lastByTicks (waitingKind k) ≡ true → (0 < interval) × (d ≡ afterTicks interval))
         → Agrees (started k s i (amount d) interval r u) (A ++ (starting id d r u ∷ [])) (starting id d r u ∷ h)
     on-start timed = record {
-      back = back-snoc A h (starting id d r u) (v .back);
-      chain = both-chains (λ j. map (shown (st .slots)) (chainOf j st) ≡ chainFrom j (A ++ (starting id d r u ∷ []))) k
-          (ap₂ (λ (sl : List Slot) (l : List Link). map (shown sl) l) (slots-are k) (own-chain k) ∙ own)
-          (ap₂ (λ (sl : List Slot) (l : List Link). map (shown sl) l) (slots-are k) (other-chain k) ∙ off (other k) (not-other k d here));
-      memory = λ j. subst (λ (sl : List Slot). Remembers (starting id d r u ∷ h) j (memo (slotAt sl j))) (sym (slots-are k)) (remember j);
+      back = back-snoc A h e (v .back);
+      chain = both-chains (λ j. map (shown (after .slots)) (chainOf j after) ≡ chainFrom j (A ++ (e ∷ []))) k
+          (ap₂ (λ (sl : List Slot) (l : List Link). map (shown sl) l) slots-are own-chain ∙ own)
+          (ap₂ (λ (sl : List Slot) (l : List Link). map (shown sl) l) slots-are other-chain ∙ off (other k) (not-other k d here));
+      memory = λ j. subst (λ (sl : List Slot). Remembers (e ∷ h) j (memo (slotAt sl j))) (sym slots-are) (remember j);
       per = v .per ∙ ap (λ (c : Clock). c .perSecond) (sym same-clock);
       clock = v .clock ∙ ap standing (sym same-clock);
     }
       where
-        st : State
-        st = started k s i (amount d) interval r u
+        same-clock : after .clock ≡ s .clock
+        same-clock = simp rechain-clock
 
-        same-clock : st .clock ≡ s .clock
-        same-clock = clock-started k s i (amount d) interval r u
+        slots-are : after .slots ≡ putAt (s .slots) i x
+        slots-are = simp rechain-slots
 
-        x : Chain → Slot
-        x k = waitingAs k (slotAt (s .slots) i) interval r u
+        own-chain : chainOf k after ≡ place (λ w. w .wait) new (without i (chainOf k s))
+        own-chain = simp (rechain-own, stopped-chain)
 
-        slots-are : (k : Chain) → started k s i (amount d) interval r u .slots ≡ putAt (s .slots) i (waitingAs k (slotAt (s .slots) i) interval r u)
-        slots-are ByTicks = refl
-        slots-are ByDate = refl
+        other-chain : chainOf (other k) after ≡ without i (chainOf (other k) s)
+        other-chain = simp (rechain-other, stopped-chain)
 
-        own-chain : (k : Chain) → chainOf k (started k s i (amount d) interval r u) ≡ place (λ w. w .wait) (record { slot = i; wait = amount d }) (without i (chainOf k s))
-        own-chain ByTicks = refl
-        own-chain ByDate = refl
-
-        other-chain : (k : Chain) → chainOf (other k) (started k s i (amount d) interval r u) ≡ without i (chainOf (other k) s)
-        other-chain ByTicks = refl
-        other-chain ByDate = refl
-
-        remember : (j : ℕ) → Remembers (starting id d r u ∷ h) j (memo (slotAt (putAt (s .slots) i (x k)) j))
-        remember = put-at (λ j y. Remembers (starting id d r u ∷ h) j (memo y)) (s .slots) i (x k) low high
+        remember : (j : ℕ) → Remembers (e ∷ h) j (memo (slotAt (putAt (s .slots) i x) j))
+        remember = put-at (λ j y. Remembers (e ∷ h) j (memo y)) (s .slots) i x low high
             (λ t. (
               timed t .0,
               ap (λ (b : Bool). cond b (some (beginning id d r u)) (lastStart (idBase + i) h)) (eq-eqb id (idBase + i) is)

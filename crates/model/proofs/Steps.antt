@@ -187,12 +187,8 @@ module _ (k : Chain) (s : State) where
       (ordered-place k (s .slots) (chainOf k s) (ordered s h k) i wait x low high refl f)
       (ordered-stopped s h i x low high (other k) (waits-apart k)))
 
-  module _ (i wait interval r u : ℕ) where
-    pub length-started : length (started k s i wait interval r u .slots) ≡ length (s .slots)
-    length-started = simp (rechain-slots, length-put)
-
-    pub clock-started : started k s i wait interval r u .clock ≡ s .clock
-    clock-started = simp rechain-clock
+  pub length-started : (i wait interval r u : ℕ) → length (started k s i wait interval r u .slots) ≡ length (s .slots)
+  length-started i wait interval r u = simp (rechain-slots, length-put)
 
 -- ---- fired, a tick nearer, at another time, laid out
 
