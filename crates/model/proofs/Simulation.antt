@@ -203,8 +203,8 @@ module _ (s : State) (A h : List Event) (v : Agrees s A h) (id i : ℕ) (is : id
     abbrev e : Event
     e = starting id d r u
 
-    abbrev after : State
-    after = started k s i (amount d) interval r u
+    abbrev st : State
+    st = started k s i (amount d) interval r u
 
     own : map (shown (putAt (s .slots) i x)) (place (λ w. w .wait) new (without i (chainOf k s))) ≡ chainFrom k (A ++ (e ∷ []))
     own =
@@ -230,7 +230,7 @@ module _ (s : State) (A h : List Event) (v : Agrees s A h) (id i : ℕ) (is : id
         → Agrees (started k s i (amount d) interval r u) (A ++ (starting id d r u ∷ [])) (starting id d r u ∷ h)
     on-start timed = record {
       back = back-snoc A h e (v .back);
-      chain = both-chains (λ j. map (shown (after .slots)) (chainOf j after) ≡ chainFrom j (A ++ (e ∷ []))) k
+      chain = both-chains (λ j. map (shown (st .slots)) (chainOf j st) ≡ chainFrom j (A ++ (e ∷ []))) k
           (ap₂ (λ (sl : List Slot) (l : List Link). map (shown sl) l) slots-are own-chain ∙ own)
           (ap₂ (λ (sl : List Slot) (l : List Link). map (shown sl) l) slots-are other-chain ∙ off (other k) (not-other k d here));
       memory = λ j. subst (λ (sl : List Slot). Remembers (e ∷ h) j (memo (slotAt sl j))) (sym slots-are) (remember j);
@@ -238,16 +238,16 @@ module _ (s : State) (A h : List Event) (v : Agrees s A h) (id i : ℕ) (is : id
       clock = v .clock ∙ ap standing (sym same-clock);
     }
       where
-        same-clock : after .clock ≡ s .clock
+        same-clock : st .clock ≡ s .clock
         same-clock = simp rechain-clock
 
-        slots-are : after .slots ≡ putAt (s .slots) i x
+        slots-are : st .slots ≡ putAt (s .slots) i x
         slots-are = simp rechain-slots
 
-        own-chain : chainOf k after ≡ place (λ w. w .wait) new (without i (chainOf k s))
+        own-chain : chainOf k st ≡ place (λ w. w .wait) new (without i (chainOf k s))
         own-chain = simp (rechain-own, stopped-chain)
 
-        other-chain : chainOf (other k) after ≡ without i (chainOf (other k) s)
+        other-chain : chainOf (other k) st ≡ without i (chainOf (other k) s)
         other-chain = simp (rechain-other, stopped-chain)
 
         remember : (j : ℕ) → Remembers (e ∷ h) j (memo (slotAt (putAt (s .slots) i x) j))
