@@ -231,25 +231,13 @@ module _ (s : State) (A h : List Event) (v : Agrees s A h) (id i : ℕ) (is : id
     on-start timed = record {
       back = back-snoc A h e (v .back);
       chain = both-chains (λ j. map (shown (st .slots)) (chainOf j st) ≡ chainFrom j (A ++ (e ∷ []))) k
-          (ap₂ (λ (sl : List Slot) (l : List Link). map (shown sl) l) slots-are own-chain ∙ own)
-          (ap₂ (λ (sl : List Slot) (l : List Link). map (shown sl) l) slots-are other-chain ∙ off (other k) (not-other k d here));
-      memory = λ j. subst (λ (sl : List Slot). Remembers (e ∷ h) j (memo (slotAt sl j))) (sym slots-are) (remember j);
-      per = v .per ∙ ap (λ (c : Clock). c .perSecond) (sym same-clock);
-      clock = v .clock ∙ ap standing (sym same-clock);
+          (simp (rechain-slots, rechain-own, stopped-chain) own)
+          (simp (rechain-slots, rechain-other, stopped-chain) (off (other k) (not-other k d here)));
+      memory = λ j. simp rechain-slots (remember j);
+      per = simp rechain-clock (v .per);
+      clock = simp rechain-clock (v .clock);
     }
       where
-        same-clock : st .clock ≡ s .clock
-        same-clock = simp rechain-clock
-
-        slots-are : st .slots ≡ putAt (s .slots) i x
-        slots-are = simp rechain-slots
-
-        own-chain : chainOf k st ≡ place (λ w. w .wait) new (without i (chainOf k s))
-        own-chain = simp (rechain-own, stopped-chain)
-
-        other-chain : chainOf (other k) st ≡ without i (chainOf (other k) s)
-        other-chain = simp (rechain-other, stopped-chain)
-
         remember : (j : ℕ) → Remembers (e ∷ h) j (memo (slotAt (putAt (s .slots) i x) j))
         remember = put-at (λ j y. Remembers (e ∷ h) j (memo y)) (s .slots) i x low high
             (λ t. (
