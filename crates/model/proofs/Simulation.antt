@@ -1,6 +1,6 @@
 -- Agreement of a state with the events so far. Each accepted call that does not move the clock takes a state that agrees with them to one that
 -- agrees with them and the call's event. Assumes nothing.
-use mathlib.Core.Path.{_≡_, refl, sym, ap, ap₂, _∙_, subst}
+use mathlib.Core.Path.{_≡_, refl, sym, ap, ap₂, _∙_}
 use Prim.Native.Nat.{ℕ, _+_, _≤_, _<_}
 use native.Mathlib.Omega.{arith}
 use mathlib.Core.Bool.{Bool, true, false, cond, not}
@@ -11,7 +11,7 @@ use lib.Dec.{eqb}
 use borrow.Author.Tests.{eqb-true, eqb-false, eq-eqb, ne-eqb, not-true}
 use Rattle.model.specs.Lists.{keep, place}
 use Rattle.model.specs.Kinds.{Chain, ByTicks, ByDate, waitingKind, lastByTicks}
-use Rattle.model.specs.State.{Slot, Link, Clock, State, chainOf, free, slotAt, putAt, without, idBase}
+use Rattle.model.specs.State.{Slot, Link, State, chainOf, free, slotAt, putAt, without, idBase}
 use Rattle.model.specs.Directives.{laidOut, stored, stopped, waitingAs, started}
 use Rattle.model.specs.History.{Due, afterTicks, atDate, Start, Event, laidOutFor, changes, nothing, lastStart, perSecond, clockAfter, Placed, dueWithin, isFor, inChain, Waiting}
 use Rattle.model.specs.Demand.{shown}
@@ -179,18 +179,11 @@ module _ (s : State) (A h : List Event) (v : Agrees s A h) (id i : ℕ) (is : id
   pub on-stop : (x : Slot) → Remembers h i (memo x) → Agrees (stopped s i x) (A ++ (changes id none ∷ [])) (changes id none ∷ h)
   on-stop x remember = record {
     back = back-snoc A h (changes id none) (v .back);
-    chain = each;
+    chain = λ k. rw stopped-chain (without-slot x (chainOf k s) ∙ ap rest (v .chain k) ∙ sym (chain-calm k (changes id none) (stop-calm none k) A refl));
     memory = put-at (λ j y. Remembers h j (memo y)) (s .slots) i x low high remember (λ j n. v .memory j);
     per = v .per;
     clock = v .clock;
   }
-    where
-      gone : (k : Chain) → map (shown (putAt (s .slots) i x)) (without i (chainOf k s)) ≡ chainFrom k (A ++ (changes id none ∷ []))
-      gone k = without-slot x (chainOf k s) ∙ ap rest (v .chain k) ∙ sym (chain-calm k (changes id none) (stop-calm none k) A refl)
-
-      each : (k : Chain) → map (shown (putAt (s .slots) i x)) (chainOf k (stopped s i x)) ≡ chainFrom k (A ++ (changes id none ∷ []))
-      each ByTicks = gone ByTicks
-      each ByDate = gone ByDate
 
   -- slot i starts to wait in chain k
   module _ (k : Chain) (d : Due) (interval r u : ℕ) (here : isFor k d ≡ true) (soon : (b : List Event) → dueWithin d b [] ≡ false) where
