@@ -1,12 +1,20 @@
 /* Guards the cell-by-cell write of a map with a timer. The device says "ready" for every cell; only the guard tells that a
- * cell took too long and stayed empty. A writer that reads no status signs such a map once no slot is free for its guard. */
+ * cell took too long and stayed empty. A map is signed when its writer vouches that no cell is empty, since the guard was
+ * started for each and never fired. A writer that reads no status signs a map with an empty cell once no slot is free for
+ * its guard. */
 #include "heathcinder.h"
 
 #include <stdbool.h>
 #include <stdio.h>
 
-enum { SLOTS = 2, CELLS = 6, LIMIT = 4, GUARD_NAME = 1, OTHER_NAME = 2, ROUTINE = 7 };
+enum { SLOTS = 2, TICKS_PER_SECOND = 100, CELLS = 6, LIMIT = 4, GUARD_NAME = 1, OTHER_NAME = 2 };
 enum { WORDS = HC_TABLE_WORDS(SLOTS), LIST = HC_LIST_WORDS(SLOTS) };
+
+/* Routines are the caller's own numbers: here they only tell the two kinds of timer apart. */
+enum { CELL_TOOK_TOO_LONG = 7, OTHER_WORK = 8, OTHER_WORK_DUE = 5 };
+
+/* An entry of the fired list. */
+enum { ENTRY_ID, ENTRY_ROUTINE, ENTRY_DATA, ENTRY_WORDS };
 
 static uint32_t table[WORDS], fired[LIST];
 
@@ -15,37 +23,49 @@ static const uint32_t smooth[CELLS] = {1, 2, 1, 2, 2, 1};
 static const uint32_t sticky[CELLS] = {1, 2, 1, 9, 2, 1};
 
 /* Every status goes through here. A writer that does not read them goes on whatever it is. */
-static bool refused(const char *call, uint32_t status, bool reads)
+static bool refused(const char *call, uint32_t status, bool reads_statuses)
 {
-    if (status == HC_SUCCESSFUL || !reads)
+    if (status == HC_SUCCESSFUL || !reads_statuses)
         return false;
     printf("not signed: %s gave status %u%s\n", call, (unsigned)status, status == HC_TOO_MANY ? " (too many)" : "");
     return true;
 }
 
+/* Looks for the guard among the timers that fired: others on the same table fire at the same ticks. */
+static bool guard_fired(uint32_t guard, uint32_t count)
+{
+    for (uint32_t k = 0; k < count; k++) {
+        const uint32_t *entry = fired + ENTRY_WORDS * k;
+        if (entry[ENTRY_ID] == guard) {
+            printf("not signed: the guard fired at cell %u\n", (unsigned)entry[ENTRY_DATA] + 1);
+            return true;
+        }
+    }
+    return false;
+}
+
 /* Ticks pass until the cell is ready. False if the guard fired before that, or a tick was refused. */
-static bool write_cell(uint32_t cell, uint32_t ticks, bool reads)
+static bool write_cell(uint32_t guard, uint32_t ticks, bool reads_statuses)
 {
     uint32_t count;
     for (uint32_t i = 0; i < ticks; i++) {
-        if (refused("tick", hc_tick(table, WORDS, fired, LIST, &count), reads))
+        if (refused("tick", hc_tick(table, WORDS, fired, LIST, &count), reads_statuses))
             return false;
-        if (count > 0) {
-            printf("not signed: the guard fired at cell %u\n", (unsigned)cell + 1);
+        if (guard_fired(guard, count))
             return false;
-        }
     }
     return true;
 }
 
-static bool write_guarded(uint32_t guard, const uint32_t *ticks, char *map, bool reads)
+static bool write_guarded(uint32_t guard, const uint32_t *ticks, char *map, bool reads_statuses)
 {
     for (uint32_t cell = 0; cell < CELLS; cell++) {
-        if (refused("fire after", hc_fire_after(table, WORDS, guard, LIMIT, ROUTINE, cell), reads))
+        uint32_t status = hc_fire_after(table, WORDS, guard, LIMIT, CELL_TOOK_TOO_LONG, cell);
+        if (refused("fire after", status, reads_statuses))
             return false;
-        if (!write_cell(cell, ticks[cell], reads))
+        if (!write_cell(guard, ticks[cell], reads_statuses))
             return false;
-        if (refused("cancel", hc_cancel(table, WORDS, guard), reads))
+        if (refused("cancel", hc_cancel(table, WORDS, guard), reads_statuses))
             return false;
         if (ticks[cell] < LIMIT)
             map[cell] = '#';
@@ -53,28 +73,36 @@ static bool write_guarded(uint32_t guard, const uint32_t *ticks, char *map, bool
     return true;
 }
 
-static void write_map(const char *title, const uint32_t *ticks, bool reads)
+/* Signing comes last, when no call is left that could be refused. */
+static void write_map(const char *title, const uint32_t *ticks, bool reads_statuses)
 {
     char map[CELLS + 1] = "......";
     uint32_t guard;
     printf("%s: ", title);
-    if (refused("create", hc_create(table, WORDS, GUARD_NAME, &guard), reads))
+    if (refused("create", hc_create(table, WORDS, GUARD_NAME, &guard), reads_statuses))
         return;
-    if (write_guarded(guard, ticks, map, reads))
+    bool written = write_guarded(guard, ticks, map, reads_statuses);
+    bool deleted = !refused("delete", hc_delete(table, WORDS, guard), reads_statuses);
+    if (written && deleted)
         printf("signed: %s\n", map);
-    refused("delete", hc_delete(table, WORDS, guard), reads);
+}
+
+/* Other work takes a slot, and its timer fires while a map is written. */
+static bool start_other_work(void)
+{
+    uint32_t id;
+    return !refused("create", hc_create(table, WORDS, OTHER_NAME, &id), true) &&
+           !refused("fire after", hc_fire_after(table, WORDS, id, OTHER_WORK_DUE, OTHER_WORK, 0), true);
 }
 
 int main(void)
 {
-    uint32_t id;
-    if (refused("lay out", hc_lay_out(table, WORDS, SLOTS, 100), true))
+    if (refused("lay out", hc_lay_out(table, WORDS, SLOTS, TICKS_PER_SECOND), true) || !start_other_work())
         return 1;
     write_map("smooth map, statuses read", smooth, true);
     write_map("sticky map, statuses read", sticky, true);
-    for (int i = 0; i < SLOTS; i++)     /* other work takes the slots */
-        if (refused("create", hc_create(table, WORDS, OTHER_NAME, &id), true))
-            return 1;
+    if (!start_other_work())
+        return 1;
     write_map("sticky map, no slot free, statuses read", sticky, true);
     write_map("sticky map, no slot free, statuses not read", sticky, false);
     return 0;
