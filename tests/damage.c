@@ -19,7 +19,8 @@ static uint32_t *table;
 
 static uint32_t some_value(uint32_t word)
 {
-    static const uint32_t limits[] = {0, 0, 1, 2, 3, 4, 5, 6, 255, 256, 999, 1000, 1001, LAST_SECOND, LAST_SECOND + 1,
+    static const uint32_t limits[] = {0, 0, 1, 2, 3, 4, 5, 6, MAX_SLOTS, MAX_SLOTS + 1, MAX_TICKS_PER_SECOND - 1,
+                                      MAX_TICKS_PER_SECOND, MAX_TICKS_PER_SECOND + 1, LAST_SECOND, LAST_SECOND + 1,
                                       0x80000000u, 0xffffffffu};
     switch (below(7)) {
     case 0:
@@ -29,11 +30,11 @@ static uint32_t some_value(uint32_t word)
     case 2:
         return base[word] ^ 1u << below(32);
     case 3:
-        return below(base[0] + 2);
+        return below(base[HEADER_SLOTS] + 2);
     case 4:
         return base[below((uint32_t)base_words)];
     case 5:
-        return one_in(2) ? base[below(7)] + below(2) : random_word();
+        return one_in(2) ? base[below(HEADER_ZEROS)] + below(2) : random_word();
     default:
         return limits[below(sizeof limits / sizeof *limits)];
     }
@@ -42,11 +43,11 @@ static uint32_t some_value(uint32_t word)
 static void change_words(void)
 {
     if (one_in(40) && slice >= base_words) {
-        table[0]++;
+        table[HEADER_SLOTS]++;
         return;
     }
     for (uint32_t changes = below(16) == 0 ? 0 : 1 + below(2); changes > 0; changes--) {
-        uint32_t word = below(one_in(3) ? 10 : (uint32_t)base_words);
+        uint32_t word = below(one_in(3) ? HEADER_WORDS : (uint32_t)base_words);
         if (word < slice)
             table[word] = some_value(word);
     }
@@ -98,7 +99,7 @@ static void expect(const struct call *c, uint32_t broken)
     oracle_encode(&oracle, table_memory.expected + table_memory.total - slice);
     if (c->kind == TICK || c->kind == SET_CLOCK)
         memcpy(list_memory.expected + list_memory.total - c->fired_words, expected.fired,
-               3 * (size_t)expected.answer * sizeof(uint32_t));
+               list_words(expected.answer) * sizeof(uint32_t));
 }
 
 static void try_one(size_t tail)
@@ -137,10 +138,10 @@ int main(int count, char **arguments)
         random_span();
         random_state_of(&oracle);
         oracle_encode(&oracle, base);
-        base_words = 10 + 8 * (size_t)oracle.slots;
-        size_t tail = one_in(2) ? below(20) : 0;
+        base_words = table_words(oracle.slots);
+        size_t tail = one_in(2) ? below(MOST_PAST_TABLE) : 0;
         if (oracle.slots == MAX_SLOTS && one_in(2))
-            tail = 8 + below(4);
+            tail = SLOT_WORDS + below(4);
         place.table++, place.number = 0;
         watch();
         for (int i = 0; i < 40; i++)

@@ -19,14 +19,14 @@ uint32_t random_slots(void)
     case 6:
         return 1 + below(64);
     default:
-        return one_in(2) ? 255 - below(2) : 1 + below(255);
+        return one_in(2) ? MAX_SLOTS - below(2) : 1 + below(MAX_SLOTS);
     }
 }
 
 uint32_t random_ticks_per_second(void)
 {
     static const uint32_t usual[] = {1, 1, 2, 3, 10, 60, 100, 999, 1000};
-    return one_in(4) ? 1 + below(1000) : usual[below(sizeof usual / sizeof *usual)];
+    return one_in(4) ? 1 + below(MAX_TICKS_PER_SECOND) : usual[below(sizeof usual / sizeof *usual)];
 }
 
 /* How far ahead most starts are due, in ticks or seconds: short spans give many equals, long ones many waiting. */
@@ -191,9 +191,11 @@ static void random_date(const struct oracle *o, struct hc_wall_time *t)
 
 static size_t random_list_length(uint32_t slots)
 {
+    enum { MOST_PAST_LIST = 20 };
+    uint32_t needed = (uint32_t)list_words(slots);
     if (!one_in(6))
-        return 3 * slots + (one_in(3) ? below(20) : 0);
-    return one_in(2) ? 3 * slots - 1 - below(3) : below(3 * slots + 20);
+        return needed + (one_in(3) ? below(MOST_PAST_LIST) : 0);
+    return one_in(2) ? needed - 1 - below(FIRED_WORDS) : below(needed + MOST_PAST_LIST);
 }
 
 static enum call_kind random_kind(void)
@@ -229,11 +231,11 @@ void random_lay_out(uint32_t most, size_t capacity, struct call *c)
     c->ticks_per_second = random_ticks_per_second();
     c->words = capacity;
     if (one_in(6))
-        c->slots = one_in(3) ? random_number() : one_in(2) ? 0 : 256 + below(2);
+        c->slots = one_in(3) ? random_number() : one_in(2) ? 0 : MAX_SLOTS + 1 + below(2);
     if (one_in(6))
-        c->ticks_per_second = one_in(3) ? random_number() : one_in(2) ? 0 : 1001 + below(2);
+        c->ticks_per_second = one_in(3) ? random_number() : one_in(2) ? 0 : MAX_TICKS_PER_SECOND + 1 + below(2);
     if (one_in(3) && c->slots <= most)
-        c->words = 10 + 8 * (size_t)c->slots - 1 + below(2);
+        c->words = table_words(c->slots) - 1 + below(2);
     else if (one_in(6))
         c->words = below((uint32_t)capacity + 1);
 }

@@ -4,6 +4,8 @@
 
 #include "harness.h"
 
+enum { MOST_PAST_TABLE = 20 };      /* words of a slice after its table stay below this */
+
 uint32_t random_slots(void);
 uint32_t random_ticks_per_second(void);
 

@@ -78,56 +78,65 @@ void fill_randomly(struct lent *memory)
 
 struct place place;
 
-static void describe_time(const struct hc_wall_time *t, char *text, size_t size)
+void describe_time(const struct hc_wall_time *t, char text[TIME_TEXT])
 {
-    snprintf(text, size, "%" PRIu32 "-%02" PRIu32 "-%02" PRIu32 " %02" PRIu32 ":%02" PRIu32 ":%02" PRIu32 " ticks %" PRIu32,
+    snprintf(text, TIME_TEXT, "%" PRIu32 "-%02" PRIu32 "-%02" PRIu32 " %02" PRIu32 ":%02" PRIu32 ":%02" PRIu32 " ticks %" PRIu32,
              t->year, t->month, t->day, t->hour, t->minute, t->second, t->ticks);
 }
 
-void describe_call(const struct call *c, char *text, size_t size)
+/* The arguments after the table's. */
+static void describe_arguments(const struct call *c, char *text, size_t size)
 {
-    char time[120];
-    int used = snprintf(text, size, "%s(%zu words", call_names[c->kind], c->words);
-    text += used, size -= (size_t)used;
-    describe_time(&c->time, time, sizeof time);
+    char time[TIME_TEXT];
+    describe_time(&c->time, time);
     switch (c->kind) {
     case LAY_OUT:
-        snprintf(text, size, ", slots %" PRIu32 ", ticks_per_second %" PRIu32 ")", c->slots, c->ticks_per_second);
+        snprintf(text, size, ", slots %" PRIu32 ", ticks_per_second %" PRIu32, c->slots, c->ticks_per_second);
         break;
     case CREATE:
     case IDENT:
-        snprintf(text, size, ", name %" PRIu32 ")", c->name);
+        snprintf(text, size, ", name %" PRIu32, c->name);
+        break;
+    case CANCEL:
+    case DELETE:
+    case RESET:
+    case TICKS_LEFT:
+        snprintf(text, size, ", id 0x%" PRIx32, c->id);
         break;
     case FIRE_AFTER:
-        snprintf(text, size, ", id 0x%" PRIx32 ", ticks %" PRIu32 ", routine %" PRIu32 ", data %" PRIu32 ")", c->id,
-                 c->ticks, c->routine, c->data);
+        snprintf(text, size, ", id 0x%" PRIx32 ", ticks %" PRIu32 ", routine %" PRIu32 ", data %" PRIu32, c->id, c->ticks,
+                 c->routine, c->data);
         break;
     case FIRE_WHEN:
-        snprintf(text, size, ", id 0x%" PRIx32 ", %s, routine %" PRIu32 ", data %" PRIu32 ")", c->id, time, c->routine,
-                 c->data);
+        snprintf(text, size, ", id 0x%" PRIx32 ", %s, routine %" PRIu32 ", data %" PRIu32, c->id, time, c->routine, c->data);
         break;
     case TICK:
-        snprintf(text, size, ", list %zu words)", c->fired_words);
+        snprintf(text, size, ", list %zu words", c->fired_words);
         break;
     case SET_CLOCK:
-        snprintf(text, size, ", %s, list %zu words)", time, c->fired_words);
+        snprintf(text, size, ", %s, list %zu words", time, c->fired_words);
         break;
     case GET_CLOCK:
-        snprintf(text, size, ")");
+        *text = '\0';
         break;
-    default:
-        snprintf(text, size, ", id 0x%" PRIx32 ")", c->id);
     }
+}
+
+void describe_call(const struct call *c, char text[CALL_TEXT])
+{
+    char arguments[CALL_TEXT / 2];
+    describe_arguments(c, arguments, sizeof arguments);
+    snprintf(text, CALL_TEXT, "%s(%zu words%s)", call_names[c->kind], c->words, arguments);
 }
 
 static void print_place(void)
 {
-    char text[400];
+    char text[CALL_TEXT];
     printf("FAILED %s, seed %" PRIu64, place.program, place.seed);
     if (place.table)
         printf(", table %" PRIu64 ", call %" PRIu64, place.table, place.number);
     if (place.call) {
-        describe_call(place.call, text, sizeof text);
+        describe_call(place.call, text);
         printf(": %s", text);
     }
     printf(": ");
@@ -175,27 +184,17 @@ enum { BESIDE = 2 };
 static uint32_t answers[BESIDE + 1 + BESIDE];
 static struct hc_wall_time times[BESIDE + 1 + BESIDE];
 
-static uint32_t call_with_answer(const struct call *c, uint32_t *table, uint32_t *list, uint32_t *answer)
+static uint32_t call_library(const struct call *c, uint32_t *table, uint32_t *list)
 {
+    uint32_t *answer = &answers[BESIDE];
+    struct hc_wall_time *time = &times[BESIDE];
     switch (c->kind) {
+    case LAY_OUT:
+        return hc_lay_out(table, c->words, c->slots, c->ticks_per_second);
     case CREATE:
         return hc_create(table, c->words, c->name, answer);
     case IDENT:
         return hc_ident(table, c->words, c->name, answer);
-    case TICKS_LEFT:
-        return hc_ticks_left(table, c->words, c->id, answer);
-    case TICK:
-        return hc_tick(table, c->words, list, c->fired_words, answer);
-    default:
-        return hc_set_clock(table, c->words, &times[BESIDE], list, c->fired_words, answer);
-    }
-}
-
-static uint32_t call_without(const struct call *c, uint32_t *table)
-{
-    switch (c->kind) {
-    case LAY_OUT:
-        return hc_lay_out(table, c->words, c->slots, c->ticks_per_second);
     case CANCEL:
         return hc_cancel(table, c->words, c->id);
     case DELETE:
@@ -203,12 +202,19 @@ static uint32_t call_without(const struct call *c, uint32_t *table)
     case FIRE_AFTER:
         return hc_fire_after(table, c->words, c->id, c->ticks, c->routine, c->data);
     case FIRE_WHEN:
-        return hc_fire_when(table, c->words, c->id, &times[BESIDE], c->routine, c->data);
+        return hc_fire_when(table, c->words, c->id, time, c->routine, c->data);
     case RESET:
         return hc_reset(table, c->words, c->id);
-    default:
-        return hc_get_clock(table, c->words, &times[BESIDE]);
+    case TICKS_LEFT:
+        return hc_ticks_left(table, c->words, c->id, answer);
+    case TICK:
+        return hc_tick(table, c->words, list, c->fired_words, answer);
+    case SET_CLOCK:
+        return hc_set_clock(table, c->words, time, list, c->fired_words, answer);
+    case GET_CLOCK:
+        return hc_get_clock(table, c->words, time);
     }
+    abort();    /* there is no such call */
 }
 
 static bool has_answer(enum call_kind kind)
@@ -228,7 +234,7 @@ void perform(const struct call *c, uint32_t *table, uint32_t *list, struct came 
     memcpy(answers_before, answers, sizeof answers);
     memcpy(times_before, times, sizeof times);
 
-    came->status = has_answer(c->kind) ? call_with_answer(c, table, list, &answers[BESIDE]) : call_without(c, table);
+    came->status = call_library(c, table, list);
 
     came->answer = has_answer(c->kind) ? answers[BESIDE] : 0;
     came->clock = (struct hc_wall_time){0, 0, 0, 0, 0, 0, 0};
@@ -241,15 +247,16 @@ void perform(const struct call *c, uint32_t *table, uint32_t *list, struct came 
 
 static void name_word(ptrdiff_t word, char *text, size_t size)
 {
-    static const char *const header[] = {"slot count", "ticks in a second", "clock set", "seconds", "ticks into the second",
+    static const char *const header[HEADER_WORDS] = {"slot count", "ticks in a second", "clock set", "seconds", "ticks into the second",
                                          "first of the interval chain", "first of the dated chain", "zero", "zero", "zero"};
-    static const char *const fields[] = {"kind", "name", "interval", "wait", "routine", "user data", "next", "previous"};
+    static const char *const fields[SLOT_WORDS] = {"kind", "name", "interval", "wait", "routine", "user data", "next", "previous"};
     if (word < 0)
         snprintf(text, size, "%td words before the table", -word);
-    else if (word < 10)
+    else if (word < HEADER_WORDS)
         snprintf(text, size, "table word %td (%s)", word, header[word]);
     else
-        snprintf(text, size, "table word %td (slot %td %s)", word, (word - 10) / 8 + 1, fields[(word - 10) % 8]);
+        snprintf(text, size, "table word %td (slot %td %s)", word, (word - HEADER_WORDS) / SLOT_WORDS + 1,
+                 fields[(word - HEADER_WORDS) % SLOT_WORDS]);
 }
 
 static void compare_memory(const struct lent *memory, bool is_table)
@@ -277,10 +284,10 @@ void compare(const struct came *came, const struct outcome *expected)
         fail("status %" PRIu32 ": expected answer %" PRIu32 ", came %" PRIu32, came->status, expected->answer,
              came->answer);
     if (memcmp(&came->clock, &expected->clock, sizeof came->clock) != 0) {
-        char text[2][120];
-        describe_time(&expected->clock, text[0], sizeof text[0]);
-        describe_time(&came->clock, text[1], sizeof text[1]);
-        fail("status %" PRIu32 ": expected %s, came %s", came->status, text[0], text[1]);
+        char wanted[TIME_TEXT], given[TIME_TEXT];
+        describe_time(&expected->clock, wanted);
+        describe_time(&came->clock, given);
+        fail("status %" PRIu32 ": expected %s, came %s", came->status, wanted, given);
     }
     if (came->beside)
         fail("expected the words beside the answer and the wall time given to stay, came a change");

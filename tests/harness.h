@@ -35,14 +35,17 @@ void compare(const struct came *came, const struct outcome *expected);
 /* ---- Failure: one line, exit status 1 ---- */
 struct place {
     const char *program;
-    uint64_t seed, table, number;   /* how-manieth table, and how-manieth call on it */
+    uint64_t seed;
+    uint64_t table, number;         /* the table's number, and the call's on it, both from 1 */
     const struct call *call;
     const uint32_t *words;          /* where the table's slice begins */
 };
 extern struct place place;
 void begin(const char *program, uint64_t seed);
 void fail(const char *format, ...) __attribute__((format(printf, 1, 2), noreturn));
-void describe_call(const struct call *call, char *text, size_t size);
+enum { TIME_TEXT = 120, CALL_TEXT = 400 };      /* characters that suffice for any */
+void describe_time(const struct hc_wall_time *time, char text[TIME_TEXT]);
+void describe_call(const struct call *call, char text[CALL_TEXT]);
 void watch(void);   /* the next calls may take two seconds of processor time in all */
 
 /* ---- What was met ---- */

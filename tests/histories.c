@@ -1,15 +1,14 @@
 /* Histories: what must fire is kept from the calls and their statuses alone, as absolute ticks and dates, in the words of
- * the specification's claim about whole lists of calls. No table is looked at, but for that claim's last sentence: the
- * chains give the waiting timers in firing order by next, and in reverse by previous.
+ * the specification's claim about whole lists of calls; the calendar is the C library's. No table is looked at, but for that
+ * claim's last sentence: the chains give the waiting timers in firing order by next, and in reverse by previous.
  * Arguments: seed, number of calls. */
-#define _DEFAULT_SOURCE
 #include "harness.h"
+#include "libc_calendar.h"
 
 #include <inttypes.h>
 #include <stdio.h>
 #include <stdlib.h>
 #include <string.h>
-#include <time.h>
 
 /* A start that has not ended. The vector holds them in the order in which they were made. */
 struct start {
@@ -22,41 +21,13 @@ static uint32_t waiting_count;
 
 /* The last start of each timer, for reset; ticks 0 where there is none by ticks. */
 static struct start last[MAX_SLOTS + 1];
-static bool lasts[MAX_SLOTS + 1];       /* from its create to its delete or a lay out */
+static bool exists[MAX_SLOTS + 1];      /* from its create to its delete or a lay out */
 
 static uint64_t ticks, clock_ticks;     /* accepted ticks since lay out; the clock, counted in ticks */
 static bool clock_set;
 static uint32_t slots, ticks_per_second;
 static uint64_t calls, fired_in_all, accepted[CALLS];
 static uint32_t span;
-
-/* ---- The calendar is the C library's ---- */
-
-static time_t first_second(void)
-{
-    static time_t first;
-    if (first == 0) {
-        struct tm date = {.tm_year = 88, .tm_mday = 1};
-        first = timegm(&date);
-    }
-    return first;
-}
-
-static uint64_t seconds_of(const struct hc_wall_time *t)
-{
-    struct tm date = {.tm_year = (int)t->year - 1900, .tm_mon = (int)t->month - 1, .tm_mday = (int)t->day,
-                      .tm_hour = (int)t->hour, .tm_min = (int)t->minute, .tm_sec = (int)t->second};
-    return (uint64_t)(timegm(&date) - first_second());
-}
-
-static void date_of(uint64_t seconds, struct hc_wall_time *t)
-{
-    struct tm date;
-    time_t second = first_second() + (time_t)seconds;
-    gmtime_r(&second, &date);
-    *t = (struct hc_wall_time){(uint32_t)date.tm_year + 1900, (uint32_t)date.tm_mon + 1, (uint32_t)date.tm_mday,
-                               (uint32_t)date.tm_hour, (uint32_t)date.tm_min, (uint32_t)date.tm_sec, 0};
-}
 
 /* ---- Starts ---- */
 
@@ -95,9 +66,9 @@ static uint32_t fire(bool by_date, uint64_t limit, uint32_t *list)
 {
     uint32_t count = 0;
     for (int i = first_due(by_date, limit); i >= 0; i = first_due(by_date, limit)) {
-        list[3 * count] = waiting[i].id;
-        list[3 * count + 1] = waiting[i].routine;
-        list[3 * count + 2] = waiting[i].data;
+        list[fired_at(count, FIRED_ID)] = waiting[i].id;
+        list[fired_at(count, FIRED_ROUTINE)] = waiting[i].routine;
+        list[fired_at(count, FIRED_DATA)] = waiting[i].data;
         count++;
         end_start((uint32_t)i);
     }
@@ -109,7 +80,7 @@ static uint32_t fire(bool by_date, uint64_t limit, uint32_t *list)
 static void forget_all(const struct call *c)
 {
     waiting_count = 0, ticks = 0, clock_set = false;
-    memset(lasts, 0, sizeof lasts);
+    memset(exists, 0, sizeof exists);
     slots = c->slots, ticks_per_second = c->ticks_per_second;
 }
 
@@ -119,7 +90,7 @@ static void expect_list(const struct came *came, const uint32_t *list, uint32_t 
     if (came->answer != count)
         fail("expected %" PRIu32 " fired, came %" PRIu32, count, came->answer);
     for (size_t i = 0; i < words; i++) {
-        uint32_t word = i < 3 * (size_t)count ? list[i] : before[i];
+        uint32_t word = i < list_words(count) ? list[i] : before[i];
         if (after[i] != word)
             fail("list word %zu: expected %" PRIu32 ", came %" PRIu32, i, word, after[i]);
     }
@@ -134,13 +105,13 @@ static uint32_t after_tick(uint32_t *list)
         return count;
     if (clock_ticks < ((uint64_t)LAST_SECOND + 1) * ticks_per_second - 1)
         clock_ticks++;
-    return count + fire(true, clock_ticks / ticks_per_second, list + 3 * count);
+    return count + fire(true, clock_ticks / ticks_per_second, list + list_words(count));
 }
 
 static uint32_t after_set_clock(const struct call *c, uint32_t *list)
 {
     clock_set = true;
-    clock_ticks = seconds_of(&c->time) * ticks_per_second;
+    clock_ticks = libc_seconds_of(&c->time) * ticks_per_second;
     return fire(true, clock_ticks / ticks_per_second, list);
 }
 
@@ -156,24 +127,28 @@ static void expect_ticks_left(const struct call *c, const struct came *came)
 
 static void expect_clock(const struct came *came)
 {
-    struct hc_wall_time now;
-    date_of(clock_ticks / ticks_per_second, &now);
+    char wanted[TIME_TEXT], given[TIME_TEXT];
+    describe_time(&came->clock, given);
+    if (!clock_set)
+        fail("expected a refusal, since the clock was not set, came %s", given);
+    struct hc_wall_time now = libc_date_of(clock_ticks / ticks_per_second);
     now.ticks = (uint32_t)(clock_ticks % ticks_per_second);
-    if (!clock_set || memcmp(&now, &came->clock, sizeof now) != 0)
-        fail("expected the clock at tick %" PRIu64 " of 1988, came another date", clock_ticks);
+    describe_time(&now, wanted);
+    if (memcmp(&now, &came->clock, sizeof now) != 0)
+        fail("expected %s, came %s", wanted, given);
 }
 
 static void expect_timer(uint32_t id)
 {
-    if (id <= ID_BASE || id - ID_BASE > slots || !lasts[id - ID_BASE])
+    if (id <= ID_BASE || id - ID_BASE > slots || !exists[id - ID_BASE])
         fail("expected a refusal, since the id names no timer, came status 0");
 }
 
 static void after_create(uint32_t id)
 {
-    if (id <= ID_BASE || id - ID_BASE > slots || lasts[id - ID_BASE])
+    if (id <= ID_BASE || id - ID_BASE > slots || exists[id - ID_BASE])
         fail("expected the id of a free slot, came 0x%" PRIx32, id);
-    lasts[id - ID_BASE] = true;
+    exists[id - ID_BASE] = true;
     last[id - ID_BASE] = (struct start){.id = id};
 }
 
@@ -204,13 +179,13 @@ static void learn(const struct call *c, const struct came *came, const uint32_t 
         break;
     case DELETE:
         end_starts_of(c->id);
-        lasts[c->id - ID_BASE] = false;
+        exists[c->id - ID_BASE] = false;
         break;
     case FIRE_AFTER:
         begin_start((struct start){c->id, c->ticks, c->routine, c->data, false, ticks + c->ticks});
         break;
     case FIRE_WHEN:
-        begin_start((struct start){c->id, 0, c->routine, c->data, true, seconds_of(&c->time)});
+        begin_start((struct start){c->id, 0, c->routine, c->data, true, libc_seconds_of(&c->time)});
         break;
     case RESET:
         after_reset(c);
@@ -227,8 +202,8 @@ static void learn(const struct call *c, const struct came *came, const uint32_t 
     case GET_CLOCK:
         expect_clock(came);
         break;
-    default:
-        break;
+    case IDENT:
+        break;      /* names are the oracle's to test */
     }
 }
 
@@ -237,22 +212,25 @@ static void learn(const struct call *c, const struct came *came, const uint32_t 
 static void expect_chain(bool by_date, const uint32_t *table)
 {
     static struct start kept[MAX_SLOTS + 1];
-    uint32_t list[MAX_LIST], kept_count = waiting_count, at = table[by_date ? 6 : 5], before = 0;
+    const char *chain = by_date ? "dated" : "interval";
+    uint32_t list[MAX_LIST], kept_count = waiting_count, before = 0;
+    uint32_t at = table[by_date ? HEADER_FIRST_DATED : HEADER_FIRST_TICKING];
     memcpy(kept, waiting, sizeof kept);
     uint32_t count = fire(by_date, UINT64_MAX, list);
     memcpy(waiting, kept, sizeof kept);
     waiting_count = kept_count;
     for (uint32_t i = 0; i < count; i++) {
-        if (at == 0 || at > slots || ID_BASE + at != list[3 * i])
-            fail("place %" PRIu32 " of chain %d: expected slot %" PRIu32 ", came %" PRIu32, i, by_date ? 6 : 5,
-                 list[3 * i] - ID_BASE, at);
-        if (table[2 + 8 * at + 7] != before)
-            fail("slot %" PRIu32 ": expected previous %" PRIu32 ", came %" PRIu32, at, before, table[2 + 8 * at + 7]);
+        uint32_t id = list[fired_at(i, FIRED_ID)];
+        if (at == 0 || at > slots || ID_BASE + at != id)
+            fail("place %" PRIu32 " of the %s chain: expected slot %" PRIu32 ", came %" PRIu32, i, chain, id - ID_BASE, at);
+        uint32_t previous = table[slot_at(at, SLOT_PREVIOUS)];
+        if (previous != before)
+            fail("slot %" PRIu32 ": expected previous %" PRIu32 ", came %" PRIu32, at, before, previous);
         before = at;
-        at = table[2 + 8 * at + 6];
+        at = table[slot_at(at, SLOT_NEXT)];
     }
     if (at != 0)
-        fail("chain %d: expected its end after %" PRIu32 " slots, came slot %" PRIu32, by_date ? 6 : 5, count, at);
+        fail("%s chain: expected its end after %" PRIu32 " slots, came slot %" PRIu32, chain, count, at);
 }
 
 /* ---- Random calls ---- */
@@ -273,7 +251,7 @@ static void random_time(struct hc_wall_time *t)
     default:
         second += below(span);
     }
-    date_of(second > LAST_SECOND ? 0 : second, t);
+    *t = libc_date_of(second > LAST_SECOND ? 0 : second);
     t->ticks = random_word();
     if (one_in(12))
         t->day = 29 + below(4);
@@ -295,12 +273,12 @@ static void random_history_call(struct call *c, size_t words)
     if (one_in(1000))
         c->kind = LAY_OUT;
     c->words = words;
-    c->slots = one_in(4) ? 256 : slots, c->ticks_per_second = ticks_per_second;
+    c->slots = one_in(4) ? MAX_SLOTS + 1 : slots, c->ticks_per_second = ticks_per_second;
     c->name = below(5);
     c->id = ID_BASE + below(slots + 2);
     c->ticks = one_in(50) ? random_word() : below(span) + (one_in(20) ? 0 : 1);
     c->routine = below(20), c->data = random_word();
-    c->fired_words = 3 * slots - (one_in(10) ? 1 : 0) + (one_in(3) ? 1 : 0);
+    c->fired_words = list_words(slots) - (one_in(10) ? 1 : 0) + (one_in(3) ? 1 : 0);
     random_time(&c->time);
 }
 
@@ -332,13 +310,13 @@ int main(int count, char **arguments)
     while (calls < wanted) {
         static const uint32_t sizes[] = {1, 2, 3, 5, 12, 40, 255}, seconds[] = {1, 1, 2, 3, 10}, spans[] = {2, 4, 12, 60};
         struct call c = {.kind = LAY_OUT, .slots = sizes[below(7)], .ticks_per_second = seconds[below(5)]};
-        c.words = 10 + 8 * c.slots;
+        c.words = table_words(c.slots);
         span = spans[below(4)];
         place.table++, place.number = 0;
         watch();
         make(&c, table);
         for (uint32_t i = 0; i < 1000; i++) {
-            random_history_call(&c, 10 + 8 * slots);
+            random_history_call(&c, table_words(slots));
             make(&c, table);
         }
     }

@@ -39,11 +39,11 @@ static void note_fired(uv_timer_t *timer)
     fired[fired_count++] = (uint32_t)(timer - timers);
 }
 
-static uint32_t table[10 + 8 * SLOTS], list[3 * SLOTS];
+static uint32_t table[HC_TABLE_WORDS(SLOTS)], list[HC_LIST_WORDS(SLOTS)];
 
 static void make(struct call *c, uint32_t expected_status, struct came *came)
 {
-    c->words = 10 + 8 * SLOTS;
+    c->words = HC_TABLE_WORDS(SLOTS);
     place.call = c, place.number++, calls++;
     perform(c, table, list, came);
     if (came->status != expected_status)
@@ -72,7 +72,7 @@ static void expect_left(uint32_t index)
 static void tick(void)
 {
     struct came came;
-    struct call c = {.kind = TICK, .fired_words = 3 * SLOTS};
+    struct call c = {.kind = TICK, .fired_words = HC_LIST_WORDS(SLOTS)};
     milliseconds++;
     fired_count = 0;
     uv_update_time(uv_default_loop());
@@ -81,9 +81,9 @@ static void tick(void)
     if (came.answer != fired_count)
         fail("expected %" PRIu32 " fired as by libuv, came %" PRIu32, fired_count, came.answer);
     for (uint32_t i = 0; i < fired_count; i++)
-        if (list[3 * i] != ID_BASE + fired[i])
+        if (list[fired_at(i, FIRED_ID)] != ID_BASE + fired[i])
             fail("place %" PRIu32 " of the fired: expected slot %" PRIu32 " as by libuv, came id 0x%" PRIx32, i, fired[i],
-                 list[3 * i]);
+                 list[fired_at(i, FIRED_ID)]);
     fires += fired_count;
 }
 

@@ -41,8 +41,9 @@ const char *const part_texts[PARTS] = {
     [PART_DATED_PREVIOUS] = "previous in the dated chain", [PART_DATE_ABOVE] = "date not above word 3",
     [PART_DATE_LAST] = "date past the last second", [PART_DATES_RISE] = "dates fall along the chain"};
 
-/* The statuses of each call in their order of refusal. */
-static const uint32_t orders[CALLS][6] = {
+/* The statuses of each call in their order of refusal; 0 where it has no more. */
+enum { MOST_REFUSALS = 5 };
+static const uint32_t orders[CALLS][MOST_REFUSALS] = {
     [LAY_OUT] = {10, 8}, [CREATE] = {100, 3, 5}, [IDENT] = {100, 3}, [CANCEL] = {100, 4}, [DELETE] = {100, 4},
     [FIRE_AFTER] = {100, 10, 9, 4}, [FIRE_WHEN] = {100, 11, 9, 20, 4}, [RESET] = {100, 4, 11}, [TICKS_LEFT] = {100, 4},
     [TICK] = {100, 101}, [SET_CLOCK] = {100, 101, 20}, [GET_CLOCK] = {100, 11}};
@@ -156,9 +157,9 @@ static uint32_t free_slots(const struct oracle *o, uint32_t *lowest)
 
 static uint32_t lay_out_faults(const struct call *c)
 {
-    return bit(SLOTS_BELOW, c->slots == 0) | bit(SLOTS_ABOVE, c->slots > 255) |
-           bit(TPS_BELOW, c->ticks_per_second == 0) | bit(TPS_ABOVE, c->ticks_per_second > 1000) |
-           bit(WORDS_SHORT, c->words < 10 + 8 * (uint64_t)c->slots);
+    return bit(SLOTS_BELOW, c->slots == 0) | bit(SLOTS_ABOVE, c->slots > MAX_SLOTS) |
+           bit(TPS_BELOW, c->ticks_per_second == 0) | bit(TPS_ABOVE, c->ticks_per_second > MAX_TICKS_PER_SECOND) |
+           bit(WORDS_SHORT, c->words < table_words(c->slots));
 }
 
 static uint32_t fire_when_faults(const struct oracle *o, const struct call *c)
@@ -182,7 +183,7 @@ static uint32_t reset_faults(const struct oracle *o, const struct call *c)
 static uint32_t faults_of(const struct oracle *o, const struct call *c)
 {
     uint32_t unused;
-    bool list_short = c->fired_words < 3 * (size_t)o->slots;
+    bool list_short = c->fired_words < list_words(o->slots);
     switch (c->kind) {
     case LAY_OUT:
         return lay_out_faults(c);
@@ -204,15 +205,16 @@ static uint32_t faults_of(const struct oracle *o, const struct call *c)
         return bit(LIST_SHORT, list_short);
     case SET_CLOCK:
         return bit(LIST_SHORT, list_short) | date_faults(&c->time);
-    default:
+    case GET_CLOCK:
         return bit(CLOCK_UNSET, !o->clock_set);
     }
+    abort();    /* there is no such call */
 }
 
 /* Of the reasons that apply, one whose status comes first in the call's order. */
 static enum reason first_reason(enum call_kind kind, uint32_t applying)
 {
-    for (int place = 0; place < 6; place++)
+    for (int place = 0; place < MOST_REFUSALS; place++)
         for (int reason = 1; reason < REASONS; reason++)
             if ((applying >> reason & 1) && orders[kind][place] == reason_statuses[reason])
                 return (enum reason)reason;
@@ -254,9 +256,9 @@ static void fire_due(struct oracle *o, int started, uint64_t limit, struct outco
     for (int i = 0; i < count; i++) {
         struct oracle_timer *t = &o->timer[list[i].index];
         t->waiting = false;
-        out->fired[3 * out->answer] = ID_BASE + list[i].index;
-        out->fired[3 * out->answer + 1] = t->routine;
-        out->fired[3 * out->answer + 2] = t->data;
+        out->fired[fired_at(out->answer, FIRED_ID)] = ID_BASE + list[i].index;
+        out->fired[fired_at(out->answer, FIRED_ROUTINE)] = t->routine;
+        out->fired[fired_at(out->answer, FIRED_DATA)] = t->data;
         out->answer++;
     }
 }
@@ -344,9 +346,10 @@ static void apply(struct oracle *o, const struct call *c, struct outcome *out)
     case SET_CLOCK:
         set_clock(o, c, out);
         break;
-    default:
+    case GET_CLOCK:
         oracle_date_of(o->seconds, &out->clock);
         out->clock.ticks = o->clock_ticks;
+        break;
     }
 }
 
@@ -366,10 +369,12 @@ void oracle_call(struct oracle *state, const struct call *call, struct outcome *
 static uint32_t kind_of(const struct oracle_timer *t)
 {
     if (!t->exists)
-        return 0;
+        return KIND_FREE;
     if (t->started == NEVER)
-        return 1;
-    return (t->started == BY_INTERVAL ? 2 : 3) + (t->waiting ? 2 : 0);
+        return KIND_NEVER_STARTED;
+    if (t->started == BY_INTERVAL)
+        return t->waiting ? KIND_TICKING : KIND_IDLE_TICKING;
+    return t->waiting ? KIND_DATED : KIND_IDLE_DATED;
 }
 
 /* Writes the links and waits of the timers that wait by this kind of start; gives the first. */
@@ -378,11 +383,11 @@ static uint32_t encode_chain(const struct oracle *o, int started, uint32_t *tabl
     struct due list[MAX_SLOTS];
     int count = waiting(o, started, UINT64_MAX, list);
     for (int i = 0; i < count; i++) {
-        uint32_t *words = table + 10 + 8 * (list[i].index - 1);
+        uint32_t *words = table + slot_at(list[i].index, SLOT_KIND);
         uint64_t before = i > 0 ? list[i - 1].due : o->ticks;
-        words[3] = (uint32_t)(started == BY_INTERVAL ? list[i].due - before : list[i].due);
-        words[6] = i + 1 < count ? list[i + 1].index : 0;
-        words[7] = i > 0 ? list[i - 1].index : 0;
+        words[SLOT_WAIT] = (uint32_t)(started == BY_INTERVAL ? list[i].due - before : list[i].due);
+        words[SLOT_NEXT] = i + 1 < count ? list[i + 1].index : 0;
+        words[SLOT_PREVIOUS] = i > 0 ? list[i - 1].index : 0;
     }
     return count > 0 ? list[0].index : 0;
 }
@@ -391,20 +396,20 @@ void oracle_encode(const struct oracle *o, uint32_t *table)
 {
     for (uint32_t i = 1; i <= o->slots; i++) {
         const struct oracle_timer *t = &o->timer[i];
-        uint32_t words[8] = {kind_of(t), t->name, t->interval, 0, t->routine, t->data, 0, 0};
-        memcpy(table + 10 + 8 * (i - 1), words, sizeof words);
+        uint32_t words[SLOT_WORDS] = {kind_of(t), t->name, t->interval, 0, t->routine, t->data, 0, 0};
+        memcpy(table + slot_at(i, SLOT_KIND), words, sizeof words);
     }
-    uint32_t header[10] = {o->slots, o->ticks_per_second, o->clock_set, o->seconds, o->clock_ticks};
-    header[5] = encode_chain(o, BY_INTERVAL, table);
-    header[6] = encode_chain(o, BY_DATE, table);
+    uint32_t header[HEADER_WORDS] = {o->slots, o->ticks_per_second, o->clock_set, o->seconds, o->clock_ticks};
+    header[HEADER_FIRST_TICKING] = encode_chain(o, BY_INTERVAL, table);
+    header[HEADER_FIRST_DATED] = encode_chain(o, BY_DATE, table);
     memcpy(table, header, sizeof header);
 }
 
 static void decode_chain(const uint32_t *table, uint32_t first, struct oracle *o)
 {
     uint64_t sum = 0;
-    for (uint32_t i = first; i != 0; i = table[10 + 8 * (i - 1) + 6]) {
-        uint32_t wait = table[10 + 8 * (i - 1) + 3];
+    for (uint32_t i = first; i != 0; i = table[slot_at(i, SLOT_NEXT)]) {
+        uint32_t wait = table[slot_at(i, SLOT_WAIT)];
         sum += wait;
         o->timer[i].due = o->timer[i].started == BY_INTERVAL ? sum : wait;
         o->timer[i].start = ++o->starts;
@@ -414,18 +419,23 @@ static void decode_chain(const uint32_t *table, uint32_t first, struct oracle *o
 void oracle_decode(const uint32_t *table, struct oracle *o)
 {
     memset(o, 0, sizeof *o);
-    o->slots = table[0], o->ticks_per_second = table[1];
-    o->clock_set = table[2] == 1, o->seconds = table[3], o->clock_ticks = table[4];
+    o->slots = table[HEADER_SLOTS], o->ticks_per_second = table[HEADER_TICKS_PER_SECOND];
+    o->clock_set = table[HEADER_CLOCK_SET] == 1;
+    o->seconds = table[HEADER_SECONDS], o->clock_ticks = table[HEADER_CLOCK_TICKS];
     for (uint32_t i = 1; i <= o->slots; i++) {
-        const uint32_t *w = table + 10 + 8 * (i - 1);
+        const uint32_t *w = table + slot_at(i, SLOT_KIND);
+        uint32_t kind = w[SLOT_KIND];
         struct oracle_timer *t = &o->timer[i];
-        t->exists = w[0] != 0;
-        t->waiting = w[0] == 4 || w[0] == 5;
-        t->started = w[0] < 2 ? NEVER : w[0] % 2 == 0 ? BY_INTERVAL : BY_DATE;
-        t->name = w[1], t->interval = w[2], t->routine = w[4], t->data = w[5];
+        t->exists = kind != KIND_FREE;
+        t->waiting = kind == KIND_TICKING || kind == KIND_DATED;
+        if (kind == KIND_IDLE_TICKING || kind == KIND_TICKING)
+            t->started = BY_INTERVAL;
+        if (kind == KIND_IDLE_DATED || kind == KIND_DATED)
+            t->started = BY_DATE;
+        t->name = w[SLOT_NAME], t->interval = w[SLOT_INTERVAL], t->routine = w[SLOT_ROUTINE], t->data = w[SLOT_DATA];
     }
-    decode_chain(table, table[5], o);
-    decode_chain(table, table[6], o);
+    decode_chain(table, table[HEADER_FIRST_TICKING], o);
+    decode_chain(table, table[HEADER_FIRST_DATED], o);
 }
 
 /* ---- Soundness ---- */
@@ -433,50 +443,61 @@ void oracle_decode(const uint32_t *table, struct oracle *o)
 /* A slot count that is too high is read on with up to so many, to tell whether that alone is wrong. */
 enum { MOST_READ = 300 };
 
-static uint32_t part(enum part part, bool broken)
+static uint32_t broken_if(bool broken, enum part part)
 {
     return broken ? 1u << part : 0;
 }
 
+static bool all_zero(const uint32_t *words, enum slot_word from)
+{
+    for (int word = from; word < SLOT_WORDS; word++)
+        if (words[word] != 0)
+            return false;
+    return true;
+}
+
+static uint32_t broken_started(const uint32_t *w)
+{
+    bool by_interval = w[SLOT_KIND] == KIND_IDLE_TICKING || w[SLOT_KIND] == KIND_TICKING;
+    bool idle = w[SLOT_KIND] == KIND_IDLE_TICKING || w[SLOT_KIND] == KIND_IDLE_DATED;
+    return broken_if(w[SLOT_NAME] == 0, PART_NAME) | broken_if(w[SLOT_ROUTINE] == 0, PART_ROUTINE) |
+           broken_if(by_interval && w[SLOT_INTERVAL] == 0, PART_INTERVAL) |
+           broken_if(!by_interval && w[SLOT_INTERVAL] != 0, PART_NO_INTERVAL) |
+           broken_if(idle && w[SLOT_WAIT] != 0, PART_IDLE_WAIT) |
+           broken_if(idle && (w[SLOT_NEXT] != 0 || w[SLOT_PREVIOUS] != 0), PART_IDLE_LINKS);
+}
+
 static uint32_t broken_slot(const uint32_t *w)
 {
-    switch (w[0]) {
-    case 0:
-        return part(PART_FREE, w[1] || w[2] || w[3] || w[4] || w[5] || w[6] || w[7]);
-    case 1:
-        return part(PART_NEVER_NAME, w[1] == 0) | part(PART_NEVER_REST, w[2] || w[3] || w[4] || w[5] || w[6] || w[7]);
-    case 2:
-    case 3:
-    case 4:
-    case 5:
-        break;
+    switch (w[SLOT_KIND]) {
+    case KIND_FREE:
+        return broken_if(!all_zero(w, SLOT_NAME), PART_FREE);
+    case KIND_NEVER_STARTED:
+        return broken_if(w[SLOT_NAME] == 0, PART_NEVER_NAME) | broken_if(!all_zero(w, SLOT_INTERVAL), PART_NEVER_REST);
+    case KIND_IDLE_TICKING:
+    case KIND_IDLE_DATED:
+    case KIND_TICKING:
+    case KIND_DATED:
+        return broken_started(w);
     default:
-        return part(PART_KIND, true);
+        return broken_if(true, PART_KIND);
     }
-    uint32_t broken = part(PART_NAME, w[1] == 0) | part(PART_ROUTINE, w[4] == 0);
-    if (w[0] == 2 || w[0] == 4)
-        broken |= part(PART_INTERVAL, w[2] == 0);
-    else
-        broken |= part(PART_NO_INTERVAL, w[2] != 0);
-    if (w[0] == 2 || w[0] == 3)
-        broken |= part(PART_IDLE_WAIT, w[3] != 0) | part(PART_IDLE_LINKS, w[6] != 0 || w[7] != 0);
-    return broken;
 }
 
 /* Follows the chain and notes its slots in their order; false unless it meets each slot of the kind once, no other,
  * and ends at 0. */
-static bool follow(const uint32_t *table, uint32_t first, uint32_t kind, uint32_t *met, uint32_t *count)
+static bool follow(const uint32_t *table, enum header_word first, uint32_t kind, uint32_t *met, uint32_t *count)
 {
-    uint32_t times[MOST_READ + 1] = {0};
+    uint32_t times[MOST_READ + 1] = {0}, slots = table[HEADER_SLOTS];
     *count = 0;
-    for (uint32_t i = first; i != 0; i = table[10 + 8 * (i - 1) + 6]) {
-        if (i > table[0] || *count == table[0])
+    for (uint32_t i = table[first]; i != 0; i = table[slot_at(i, SLOT_NEXT)]) {
+        if (i > slots || *count == slots)
             return false;
         times[i]++;
         met[(*count)++] = i;
     }
-    for (uint32_t i = 1; i <= table[0]; i++)
-        if (times[i] != (table[10 + 8 * (i - 1)] == kind ? 1 : 0))
+    for (uint32_t i = 1; i <= slots; i++)
+        if (times[i] != (table[slot_at(i, SLOT_KIND)] == kind ? 1 : 0))
             return false;
     return true;
 }
@@ -484,15 +505,15 @@ static bool follow(const uint32_t *table, uint32_t first, uint32_t kind, uint32_
 static uint32_t broken_ticking(const uint32_t *table)
 {
     uint32_t met[MOST_READ], count, broken = 0;
-    if (!follow(table, table[5], 4, met, &count))
-        return part(PART_TICKING_CHAIN, true);
+    if (!follow(table, HEADER_FIRST_TICKING, KIND_TICKING, met, &count))
+        return broken_if(true, PART_TICKING_CHAIN);
     uint64_t left = 0;
     for (uint32_t i = 0; i < count; i++) {
-        const uint32_t *w = table + 10 + 8 * (met[i] - 1);
-        left += w[3];
-        broken |= part(PART_TICKING_PREVIOUS, w[7] != (i > 0 ? met[i - 1] : 0));
-        broken |= part(PART_FIRST_WAIT, i == 0 && w[3] == 0);
-        broken |= part(PART_LEFT, left > w[2]);
+        const uint32_t *w = table + slot_at(met[i], SLOT_KIND);
+        left += w[SLOT_WAIT];
+        broken |= broken_if(w[SLOT_PREVIOUS] != (i > 0 ? met[i - 1] : 0), PART_TICKING_PREVIOUS);
+        broken |= broken_if(i == 0 && w[SLOT_WAIT] == 0, PART_FIRST_WAIT);
+        broken |= broken_if(left > w[SLOT_INTERVAL], PART_LEFT);
     }
     return broken;
 }
@@ -500,33 +521,43 @@ static uint32_t broken_ticking(const uint32_t *table)
 static uint32_t broken_dated(const uint32_t *table)
 {
     uint32_t met[MOST_READ], count, broken = 0, before = 0;
-    if (!follow(table, table[6], 5, met, &count))
-        return part(PART_DATED_CHAIN, true);
+    if (!follow(table, HEADER_FIRST_DATED, KIND_DATED, met, &count))
+        return broken_if(true, PART_DATED_CHAIN);
     for (uint32_t i = 0; i < count; i++) {
-        const uint32_t *w = table + 10 + 8 * (met[i] - 1);
-        broken |= part(PART_DATED_PREVIOUS, w[7] != (i > 0 ? met[i - 1] : 0));
-        broken |= part(PART_DATE_ABOVE, w[3] <= table[3]);
-        broken |= part(PART_DATE_LAST, w[3] > LAST_SECOND);
-        broken |= part(PART_DATES_RISE, i > 0 && w[3] < before);
-        before = w[3];
+        const uint32_t *w = table + slot_at(met[i], SLOT_KIND);
+        broken |= broken_if(w[SLOT_PREVIOUS] != (i > 0 ? met[i - 1] : 0), PART_DATED_PREVIOUS);
+        broken |= broken_if(w[SLOT_WAIT] <= table[HEADER_SECONDS], PART_DATE_ABOVE);
+        broken |= broken_if(w[SLOT_WAIT] > LAST_SECOND, PART_DATE_LAST);
+        broken |= broken_if(i > 0 && w[SLOT_WAIT] < before, PART_DATES_RISE);
+        before = w[SLOT_WAIT];
     }
     return broken;
 }
 
+static uint32_t broken_header(const uint32_t *table)
+{
+    uint32_t per_second = table[HEADER_TICKS_PER_SECOND], set = table[HEADER_CLOCK_SET];
+    uint32_t seconds = table[HEADER_SECONDS], into = table[HEADER_CLOCK_TICKS];
+    const uint32_t *zeros = table + HEADER_ZEROS;
+    return broken_if(per_second < 1 || per_second > MAX_TICKS_PER_SECOND, PART_TPS) |
+           broken_if(set > 1, PART_CLOCK_SET) | broken_if(seconds > LAST_SECOND, PART_SECONDS) |
+           broken_if(into >= per_second, PART_CLOCK_TICKS) |
+           broken_if(zeros[0] != 0 || zeros[1] != 0 || zeros[2] != 0, PART_ZEROS) |
+           broken_if(set == 0 && (seconds != 0 || into != 0), PART_UNSET_CLOCK) |
+           broken_if(set == 0 && table[HEADER_FIRST_DATED] != 0, PART_UNSET_DATED);
+}
+
 uint32_t oracle_broken(const uint32_t *table, size_t words)
 {
-    if (words < 10)
-        return part(PART_HEADER_SHORT, true);
-    uint32_t broken = part(PART_SLOTS_BELOW, table[0] < 1) | part(PART_SLOTS_ABOVE, table[0] > 255);
-    if (words < 10 + 8 * (uint64_t)table[0] || table[0] > MOST_READ)
-        return broken | part(PART_WORDS, true);
-    broken |= part(PART_TPS, table[1] < 1 || table[1] > 1000) | part(PART_CLOCK_SET, table[2] > 1) |
-              part(PART_SECONDS, table[3] > LAST_SECOND) | part(PART_CLOCK_TICKS, table[4] >= table[1]) |
-              part(PART_ZEROS, table[7] != 0 || table[8] != 0 || table[9] != 0);
-    if (table[2] == 0)
-        broken |= part(PART_UNSET_CLOCK, table[3] != 0 || table[4] != 0) | part(PART_UNSET_DATED, table[6] != 0);
-    for (uint32_t i = 1; i <= table[0]; i++)
-        broken |= broken_slot(table + 10 + 8 * (i - 1));
+    if (words < HEADER_WORDS)
+        return broken_if(true, PART_HEADER_SHORT);
+    uint32_t slots = table[HEADER_SLOTS];
+    uint32_t broken = broken_if(slots < 1, PART_SLOTS_BELOW) | broken_if(slots > MAX_SLOTS, PART_SLOTS_ABOVE);
+    if (words < table_words(slots) || slots > MOST_READ)
+        return broken | broken_if(true, PART_WORDS);
+    broken |= broken_header(table);
+    for (uint32_t i = 1; i <= slots; i++)
+        broken |= broken_slot(table + slot_at(i, SLOT_KIND));
     return broken | broken_ticking(table) | broken_dated(table);
 }
 
@@ -557,15 +588,16 @@ bool oracle_possible(enum call_kind kind, enum reason reason)
         return reason == TABLE_NOT_SOUND || reason == LIST_SHORT;
     case SET_CLOCK:
         return reason == TABLE_NOT_SOUND || reason == LIST_SHORT || (reason >= BAD_YEAR && reason <= BAD_SECOND);
-    default:
+    case GET_CLOCK:
         return reason == TABLE_NOT_SOUND || reason == CLOCK_UNSET;
     }
+    abort();    /* there is no such call */
 }
 
 bool oracle_pair_possible(enum call_kind kind, uint32_t first, uint32_t second)
 {
     int first_place = -1, second_place = -1;
-    for (int place = 0; place < 6; place++) {
+    for (int place = 0; place < MOST_REFUSALS; place++) {
         if (orders[kind][place] == first)
             first_place = place;
         if (orders[kind][place] == second)

@@ -8,13 +8,52 @@
 
 #include <stdbool.h>
 
-enum { MAX_SLOTS = 255, MAX_TABLE = 10 + 8 * MAX_SLOTS, MAX_LIST = 3 * MAX_SLOTS };
+/* ---- The layout, named once for all tests; include/heathcinder.h draws it ---- */
+
+enum { MAX_SLOTS = 255, MAX_TICKS_PER_SECOND = 1000 };
+enum header_word {
+    HEADER_SLOTS, HEADER_TICKS_PER_SECOND, HEADER_CLOCK_SET, HEADER_SECONDS, HEADER_CLOCK_TICKS, HEADER_FIRST_TICKING,
+    HEADER_FIRST_DATED, HEADER_ZEROS, HEADER_WORDS = 10
+};
+enum slot_word {
+    SLOT_KIND, SLOT_NAME, SLOT_INTERVAL, SLOT_WAIT, SLOT_ROUTINE, SLOT_DATA, SLOT_NEXT, SLOT_PREVIOUS, SLOT_WORDS
+};
+enum { KIND_FREE, KIND_NEVER_STARTED, KIND_IDLE_TICKING, KIND_IDLE_DATED, KIND_TICKING, KIND_DATED };
+enum fired_word { FIRED_ID, FIRED_ROUTINE, FIRED_DATA, FIRED_WORDS };
+
+enum { MAX_TABLE = HEADER_WORDS + SLOT_WORDS * MAX_SLOTS, MAX_LIST = FIRED_WORDS * MAX_SLOTS };
 #define ID_BASE 0x12010000u
 #define LAST_SECOND 3534451199u
 
+/* Words that a table of so many slots takes and that its fired list must have; in 64 bits, since slot counts that are
+ * too high are tried too. */
+static inline uint64_t table_words(uint32_t slots)
+{
+    return HEADER_WORDS + (uint64_t)SLOT_WORDS * slots;
+}
+
+static inline uint64_t list_words(uint32_t slots)
+{
+    return (uint64_t)FIRED_WORDS * slots;
+}
+
+/* Which word of the table is this word of the slot, and which word of the list is this word of its k-th entry from 0. */
+static inline size_t slot_at(uint32_t index, enum slot_word word)
+{
+    return HEADER_WORDS + (size_t)SLOT_WORDS * (index - 1) + word;
+}
+
+static inline size_t fired_at(uint32_t k, enum fired_word word)
+{
+    return (size_t)FIRED_WORDS * k + word;
+}
+
+/* ---- Calls and what they give ---- */
+
 enum call_kind {
-    LAY_OUT, CREATE, IDENT, CANCEL, DELETE, FIRE_AFTER, FIRE_WHEN, RESET, TICKS_LEFT, TICK, SET_CLOCK, GET_CLOCK, CALLS
+    LAY_OUT, CREATE, IDENT, CANCEL, DELETE, FIRE_AFTER, FIRE_WHEN, RESET, TICKS_LEFT, TICK, SET_CLOCK, GET_CLOCK
 };
+enum { CALLS = GET_CLOCK + 1 };     /* no call itself, so that a switch over the calls needs no other case */
 
 /* One call with its arguments; those that its kind does not take are not looked at. */
 struct call {
@@ -45,15 +84,16 @@ struct outcome {
     uint32_t applying;              /* all reasons that apply, a bit each */
     uint32_t answer;
     struct hc_wall_time clock;      /* get clock's answer */
-    uint32_t fired[MAX_LIST];       /* answer times three words, for tick and set clock */
+    uint32_t fired[MAX_LIST];       /* as many entries as the answer, for tick and set clock */
 };
+_Static_assert(REASONS <= 32, "a set of reasons fits a word");
 
 struct oracle_timer {
     bool exists, waiting;
     enum { NEVER, BY_INTERVAL, BY_DATE } started;
     uint32_t name, interval, routine, data;
     uint64_t due;                   /* the tick since lay out, or the second */
-    uint64_t start;                 /* the how-manieth start this was */
+    uint64_t start;                 /* its last start's number, counted from lay out */
 };
 
 struct oracle {
@@ -74,6 +114,7 @@ enum part {
     PART_DATED_CHAIN, PART_DATED_PREVIOUS, PART_DATE_ABOVE, PART_DATE_LAST, PART_DATES_RISE,
     PARTS
 };
+_Static_assert(PARTS <= 32, "a set of parts fits a word");
 
 extern const char *const call_names[CALLS];
 extern const char *const reason_texts[REASONS];
@@ -83,7 +124,7 @@ extern const char *const part_texts[PARTS];
 /* What the call gives on this state, and the state after it. */
 void oracle_call(struct oracle *state, const struct call *call, struct outcome *outcome);
 
-/* The state's 10 + 8N words. */
+/* The state's words, table_words of its slots. */
 void oracle_encode(const struct oracle *state, uint32_t *table);
 
 /* The parts of soundness that the slice breaks; 0 if it is sound. */

@@ -12,7 +12,9 @@ static struct oracle oracle;
 static struct outcome expected;
 static uint64_t calls, cut_slices, locked_tables;
 
-/* One slice for the sequence. A locked one has its words past the table in a page that may not be touched. */
+/* One slice for the sequence. A locked one has its words past the table in a page that may not be touched: the length that
+ * is passed then is not true, on purpose. A caller may not do that; but the specification says that words past the table
+ * are never read or changed, and only so is a read of them seen. The page is the test's own, so nothing else is hit. */
 struct sequence {
     uint32_t most;          /* slots that fit */
     size_t capacity;        /* words of the slice */
@@ -20,14 +22,16 @@ struct sequence {
     uint32_t *table, *table_expected;
 };
 
+enum { MOST_LOCKED = 200 };
+
 static void new_sequence(struct sequence *s)
 {
     s->most = random_slots();
-    s->reachable = 10 + 8 * (size_t)s->most + (one_in(2) ? below(20) : 0);
+    s->reachable = table_words(s->most) + (one_in(2) ? below(MOST_PAST_TABLE) : 0);
     s->capacity = s->reachable;
     if (one_in(8)) {
-        s->reachable = 10 + 8 * (size_t)s->most;
-        s->capacity = s->reachable + below(200);
+        s->reachable = table_words(s->most);
+        s->capacity = s->reachable + below(MOST_LOCKED);
         locked_tables++;
     }
     s->table = table_memory.end - s->reachable;
@@ -46,7 +50,7 @@ static void make(const struct sequence *s, struct call *c)
         oracle_encode(&oracle, s->table_expected);
         if (c->kind == TICK || c->kind == SET_CLOCK)
             memcpy(list_memory.expected + list_memory.total - c->fired_words, expected.fired,
-                   3 * (size_t)expected.answer * sizeof(uint32_t));
+                   list_words(expected.answer) * sizeof(uint32_t));
     }
     perform(c, s->table, list_memory.end - c->fired_words, &came);
     compare(&came, &expected);
@@ -58,11 +62,11 @@ static void make_cut(const struct sequence *s, struct call *c)
 {
     struct came came;
     struct outcome refusal = {.status = 100, .reason = TABLE_NOT_SOUND, .applying = 1u << TABLE_NOT_SOUND};
-    uint32_t needed = 10 + 8 * oracle.slots;
-    size_t words = one_in(3) ? needed - 1 : one_in(2) ? below(needed) : below(12);
+    uint32_t needed = (uint32_t)table_words(oracle.slots);
+    size_t words = one_in(3) ? needed - 1 : one_in(2) ? below(needed) : below(HEADER_WORDS + 2);
     if (words >= needed)
         return;
-    static uint32_t kept[MAX_TABLE + 32];
+    static uint32_t kept[MAX_TABLE + MOST_PAST_TABLE];
     memcpy(kept, s->table, s->reachable * sizeof(uint32_t));
     uint32_t *cut = table_memory.end - words;
     memmove(cut, s->table, words * sizeof(uint32_t));
@@ -93,7 +97,7 @@ static void next_call(const struct sequence *s)
         return;
     }
     if (one_in(10))
-        c.words = 10 + 8 * (size_t)oracle.slots;
+        c.words = table_words(oracle.slots);
     make(s, &c);
 }
 
