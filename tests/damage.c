@@ -1,4 +1,4 @@
-/* Damaged tables: one or two words changed, or the slice cut short. A table that is no longer sound must be refused with
+/* Damaged tables: one or two words changed, many words at once, or the slice cut short. A table that is no longer sound must be refused with
  * 100 and stay; one that still is must be served as the oracle serves what it reads from it.
  * Arguments: seed, number of calls. */
 #include "generate.h"
@@ -40,8 +40,47 @@ static uint32_t some_value(uint32_t word)
     }
 }
 
+/* Words next to each other: the slice, a part of it that has a meaning, or any others. */
+static void choose_stretch(size_t *from, size_t *count)
+{
+    enum { MOST_OTHERS = 12 };
+    switch (below(6)) {
+    case 0:
+        *from = 0, *count = slice;
+        break;
+    case 1:
+        *from = 0, *count = HEADER_WORDS;
+        break;
+    case 2:
+        *from = HEADER_ZEROS, *count = HEADER_WORDS - HEADER_ZEROS;
+        break;
+    case 3:
+        *from = HEADER_WORDS, *count = slice;
+        break;
+    case 4:
+        *from = slot_at(1 + below(base[HEADER_SLOTS]), SLOT_KIND), *count = SLOT_WORDS;
+        break;
+    default:
+        *from = below((uint32_t)base_words), *count = 2 + below(MOST_OTHERS);
+    }
+}
+
+/* Makes many words at once random, all zero or all ones: what a check lets pass that takes several words together. */
+static void change_stretch(void)
+{
+    size_t from, count;
+    choose_stretch(&from, &count);
+    uint32_t filling = below(3);
+    for (size_t word = from; word < from + count && word < slice; word++)
+        table[word] = filling == 0 ? random_word() : filling == 1 ? 0 : UINT32_MAX;
+}
+
 static void change_words(void)
 {
+    if (one_in(20)) {
+        change_stretch();
+        return;
+    }
     if (one_in(40) && slice >= base_words) {
         table[HEADER_SLOTS]++;
         return;
