@@ -122,8 +122,7 @@ static void choose_call(struct call *c)
 static void expect(const struct call *c, uint32_t broken)
 {
     if (broken && c->kind != LAY_OUT) {
-        memset(&expected, 0, sizeof expected);
-        expected.status = 100, expected.reason = TABLE_NOT_SOUND, expected.applying = 1u << TABLE_NOT_SOUND;
+        oracle_refuse_unsound(c, table, &expected);
         refused++;
         for (int i = 0; i < PARTS; i++)
             broken_alone[i] += broken == 1u << i;

@@ -211,6 +211,51 @@ static uint32_t faults_of(const struct oracle *o, const struct call *c)
     abort();    /* there is no such call */
 }
 
+/* The id names no timer, however many slots the table has. */
+static uint32_t id_argument_faults(uint32_t id)
+{
+    return bit(ID_BELOW, id <= ID_BASE) | bit(ID_ABOVE, id > ID_BASE + MAX_SLOTS);
+}
+
+static uint32_t argument_faults(const struct call *c, const uint32_t *table)
+{
+    bool list_short = c->words > HEADER_SLOTS && c->fired_words < list_words(table[HEADER_SLOTS]);
+    bool clock_unset = c->words > HEADER_CLOCK_SET && table[HEADER_CLOCK_SET] == 0;
+    switch (c->kind) {
+    case LAY_OUT:
+        return 0;
+    case CREATE:
+    case IDENT:
+        return bit(NAME_ZERO, c->name == 0);
+    case CANCEL:
+    case DELETE:
+    case RESET:
+    case TICKS_LEFT:
+        return id_argument_faults(c->id);
+    case FIRE_AFTER:
+        return bit(TICKS_ZERO, c->ticks == 0) | bit(ROUTINE_ZERO, c->routine == 0) | id_argument_faults(c->id);
+    case FIRE_WHEN:
+        return bit(CLOCK_UNSET, clock_unset) | bit(ROUTINE_ZERO, c->routine == 0) | date_faults(&c->time) |
+               id_argument_faults(c->id);
+    case TICK:
+        return bit(LIST_SHORT, list_short);
+    case SET_CLOCK:
+        return bit(LIST_SHORT, list_short) | date_faults(&c->time);
+    case GET_CLOCK:
+        return bit(CLOCK_UNSET, clock_unset);
+    }
+    abort();    /* there is no such call */
+}
+
+void oracle_refuse_unsound(const struct call *call, const uint32_t *table, struct outcome *outcome)
+{
+    outcome->status = HC_NOT_SOUND;
+    outcome->reason = TABLE_NOT_SOUND;
+    outcome->applying = bit(TABLE_NOT_SOUND, true) | argument_faults(call, table);
+    outcome->answer = 0;
+    outcome->clock = (struct hc_wall_time){0, 0, 0, 0, 0, 0, 0};
+}
+
 /* Of the reasons that apply, one whose status comes first in the call's order. */
 static enum reason first_reason(enum call_kind kind, uint32_t applying)
 {
@@ -594,16 +639,25 @@ bool oracle_possible(enum call_kind kind, enum reason reason)
     abort();    /* there is no such call */
 }
 
+/* Where the status is in the call's order; -1 if the call never gives it. */
+static int place_in_order(enum call_kind kind, uint32_t status)
+{
+    for (int i = 0; i < MOST_REFUSALS; i++)
+        if (status != HC_SUCCESSFUL && orders[kind][i] == status)
+            return i;
+    return -1;
+}
+
+/* On a table that is not sound there is no telling whether a slot is free or of which kind a timer is; and an id that names
+ * no timer has no kind that reset refuses. */
 bool oracle_pair_possible(enum call_kind kind, uint32_t first, uint32_t second)
 {
-    int first_place = -1, second_place = -1;
-    for (int place = 0; place < MOST_REFUSALS; place++) {
-        if (orders[kind][place] == first)
-            first_place = place;
-        if (orders[kind][place] == second)
-            second_place = place;
-    }
-    if (first == 0 || second == 0 || first == 100 || first_place < 0 || second_place <= first_place)
+    int first_place = place_in_order(kind, first), second_place = place_in_order(kind, second);
+    if (first_place < 0 || second_place <= first_place)
         return false;
-    return kind != RESET;   /* an id that names no timer has no kind that reset refuses */
+    if (kind == CREATE && first == HC_NOT_SOUND)
+        return second != HC_TOO_MANY;
+    if (kind == RESET)
+        return second == HC_INVALID_ID;
+    return true;
 }

@@ -130,6 +130,10 @@ void oracle_encode(const struct oracle *state, uint32_t *table);
 /* The parts of soundness that the slice breaks; 0 if it is sound. */
 uint32_t oracle_broken(const uint32_t *table, size_t words);
 
+/* What a call other than lay out gives on a table that is not sound: a refusal with 100. Of the other reasons, those apply
+ * that the arguments give alone, or one header word where the slice has it: they must come second. */
+void oracle_refuse_unsound(const struct call *call, const uint32_t *table, struct outcome *outcome);
+
 /* The state that a sound table holds. */
 void oracle_decode(const uint32_t *table, struct oracle *state);
 

@@ -61,7 +61,6 @@ static void make(const struct sequence *s, struct call *c)
 static void make_cut(const struct sequence *s, struct call *c)
 {
     struct came came;
-    struct outcome refusal = {.status = 100, .reason = TABLE_NOT_SOUND, .applying = 1u << TABLE_NOT_SOUND};
     uint32_t needed = (uint32_t)table_words(oracle.slots);
     size_t words = one_in(3) ? needed - 1 : one_in(2) ? below(needed) : below(HEADER_WORDS + 2);
     if (words >= needed)
@@ -73,9 +72,10 @@ static void make_cut(const struct sequence *s, struct call *c)
     memcpy(table_memory.expected, table_memory.base, table_memory.total * sizeof(uint32_t));
     c->words = words;
     place.call = c, place.words = cut, place.number++, calls++, cut_slices++;
+    oracle_refuse_unsound(c, cut, &expected);
     perform(c, cut, list_memory.end - c->fired_words, &came);
-    compare(&came, &refusal);
-    note(c->kind, &refusal);
+    compare(&came, &expected);
+    note(c->kind, &expected);
     memcpy(s->table, kept, s->reachable * sizeof(uint32_t));
     memcpy(s->table_expected, kept, s->reachable * sizeof(uint32_t));
 }
