@@ -83,13 +83,10 @@ int main(int count, char **arguments)
     place.table = 1;
     call(LAY_OUT, NULL, HC_SUCCESSFUL, &came);
     for (uint64_t day = 0; day * DAY <= LAST_SECOND; day++) {
-        if (day % 1000 == 0)
-            watch();
         try_second(day * DAY);
         try_second(day * DAY + below(DAY - 1));
         try_second(day * DAY + DAY - 1);
     }
-    watch();
     try_triples();
     printf("calendar: seed %" PRIu64 ", %" PRIu64 " dates as the C library has them, %" PRIu64 " others refused\n", seed,
            dates, refusals);

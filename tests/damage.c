@@ -12,9 +12,10 @@ static struct oracle oracle;
 static struct outcome expected;
 static uint64_t calls, refused, harmless, broken_alone[PARTS];
 
-/* The undamaged table, and its place in memory. */
+/* The undamaged table, and its place in memory: at its start, or ending at its end. */
 static uint32_t base[MAX_TABLE];
 static size_t base_words, slice;
+static bool at_start;
 static uint32_t *table;
 
 static uint32_t some_value(uint32_t word)
@@ -92,14 +93,15 @@ static void change_words(void)
     }
 }
 
-/* Lays the table at the end of memory, whole or its first words, and damages it. Zeros past it make further free slots
+/* Lays the table beside a closed page, whole or its first words, and damages it. Zeros past it make further free slots
  * of a raised slot count. */
 static void damage(size_t tail)
 {
     slice = base_words + tail;
     if (one_in(12))
         slice = one_in(2) ? below((uint32_t)base_words) : base_words - 1;
-    table = table_memory.end - slice;
+    at_start = one_in(4);
+    table = slice_of(&table_memory, slice, at_start);
     memcpy(table, base, (slice < base_words ? slice : base_words) * sizeof(uint32_t));
     for (size_t i = base_words; i < slice; i++)
         table[i] = one_in(2) ? 0 : random_word();
@@ -132,26 +134,18 @@ static void expect(const struct call *c, uint32_t broken)
         oracle_decode(table, &oracle);
     oracle_call(&oracle, c, &expected);
     harmless += !broken;
-    if (expected.status != 0)
-        return;
-    oracle_encode(&oracle, table_memory.expected + table_memory.total - slice);
-    if (c->kind == TICK || c->kind == SET_CLOCK)
-        memcpy(list_memory.expected + list_memory.total - c->fired_words, expected.fired,
-               list_words(expected.answer) * sizeof(uint32_t));
 }
 
 static void try_one(size_t tail)
 {
     struct call c;
-    struct came came;
     struct oracle kept = oracle;
     damage(tail);
     choose_call(&c);
-    place.call = &c, place.words = table, place.number++, calls++;
+    place.call = &c, place.memory = &table_memory, place.words = table, place.number++, calls++;
+    place.list = slice_of(&list_memory, c.fired_words, at_start);
     expect(&c, oracle_broken(table, slice));
-    perform(&c, table, list_memory.end - c.fired_words, &came);
-    compare(&came, &expected);
-    note(c.kind, &expected);
+    try_call(&expected, &oracle);
     oracle = kept;
 }
 
@@ -181,7 +175,6 @@ int main(int count, char **arguments)
         if (oracle.slots == MAX_SLOTS && one_in(2))
             tail = SLOT_WORDS + below(4);
         place.table++, place.number = 0;
-        watch();
         for (int i = 0; i < 40; i++)
             try_one(tail);
     }

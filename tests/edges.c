@@ -28,27 +28,79 @@ static struct hc_wall_time at(uint32_t year, uint32_t month, uint32_t day, uint3
     return (struct hc_wall_time){year, month, day, hour, minute, second, 0};
 }
 
-static uint32_t set_clock(struct hc_wall_time time)
+/* ---- The calls, on a slice of so many words, by their own arguments ---- */
+
+static size_t words = WORDS;
+
+static uint32_t make(struct call c)
 {
-    return hc_set_clock(table, WORDS, &time, list, LIST, &answer);
+    struct came came;
+    c.words = words, c.fired_words = LIST;
+    place.call = &c;
+    perform(&c, table, list, &came);
+    place.call = NULL;
+    answer = came.answer;
+    return came.status;
+}
+
+static uint32_t lay_out(uint32_t slots, uint32_t ticks_per_second)
+{
+    return make((struct call){.kind = LAY_OUT, .slots = slots, .ticks_per_second = ticks_per_second});
+}
+
+static uint32_t create(uint32_t name)
+{
+    return make((struct call){.kind = CREATE, .name = name});
+}
+
+static uint32_t cancel(uint32_t id)
+{
+    return make((struct call){.kind = CANCEL, .id = id});
+}
+
+static uint32_t delete(uint32_t id)
+{
+    return make((struct call){.kind = DELETE, .id = id});
+}
+
+static uint32_t fire_after(uint32_t id, uint32_t ticks, uint32_t routine, uint32_t data)
+{
+    return make((struct call){.kind = FIRE_AFTER, .id = id, .ticks = ticks, .routine = routine, .data = data});
 }
 
 static uint32_t fire_when(uint32_t id, struct hc_wall_time time)
 {
-    return hc_fire_when(table, WORDS, id, &time, 7, 70);
+    return make((struct call){.kind = FIRE_WHEN, .id = id, .time = time, .routine = 7, .data = 70});
+}
+
+static uint32_t reset(uint32_t id)
+{
+    return make((struct call){.kind = RESET, .id = id});
+}
+
+static uint32_t ticks_left(uint32_t id)
+{
+    return make((struct call){.kind = TICKS_LEFT, .id = id});
 }
 
 static uint32_t tick(void)
 {
-    return hc_tick(table, WORDS, list, LIST, &answer);
+    return make((struct call){.kind = TICK});
 }
+
+static uint32_t set_clock(struct hc_wall_time time)
+{
+    return make((struct call){.kind = SET_CLOCK, .time = time});
+}
+
+/* ---- The cases ---- */
 
 static void fresh(void)
 {
-    is("lay out", 0, hc_lay_out(table, WORDS, SLOTS, 10));
-    is("create", 0, hc_create(table, WORDS, 1, &answer));
+    is("lay out", 0, lay_out(SLOTS, 10));
+    is("create", 0, create(1));
     is("its id", one, answer);
-    is("create", 0, hc_create(table, WORDS, 2, &answer));
+    is("create", 0, create(2));
     is("its id", two, answer);
 }
 
@@ -73,16 +125,16 @@ static void calendar(void)
 static void starts(void)
 {
     fresh();
-    is("ticks 1", 0, hc_fire_after(table, WORDS, one, 1, 7, 70));
+    is("ticks 1", 0, fire_after(one, 1, 7, 70));
     is("tick", 0, tick());
     is("ticks 1 fires at the very next tick", 1, answer);
-    is("ticks 4294967295", 0, hc_fire_after(table, WORDS, one, 4294967295u, 7, 70));
+    is("ticks 4294967295", 0, fire_after(one, 4294967295u, 7, 70));
     is("refused fire when, clock not set", 11, fire_when(one, at(2000, 1, 1, 0, 0, 0)));
-    is("ticks left", 0, hc_ticks_left(table, WORDS, one, &answer));
+    is("ticks left", 0, ticks_left(one));
     is("it waits still", 4294967295u, answer);
     is("set clock", 0, set_clock(at(2000, 1, 1, 0, 0, 0)));
     is("fire when at the present second", 20, fire_when(one, at(2000, 1, 1, 0, 0, 0)));
-    is("ticks left", 0, hc_ticks_left(table, WORDS, one, &answer));
+    is("ticks left", 0, ticks_left(one));
     is("it waits still", 4294967295u, answer);
     is("fire when one second later", 0, fire_when(one, at(2000, 1, 1, 0, 0, 1)));
 }
@@ -90,63 +142,69 @@ static void starts(void)
 static void cancels(void)
 {
     fresh();
-    is("reset of a timer never started", 11, hc_reset(table, WORDS, one));
-    is("fire after", 0, hc_fire_after(table, WORDS, one, 5, 7, 70));
-    is("cancel", 0, hc_cancel(table, WORDS, one));
-    is("cancel again", 0, hc_cancel(table, WORDS, one));
-    is("reset after cancel", 0, hc_reset(table, WORDS, one));
-    is("ticks left", 0, hc_ticks_left(table, WORDS, one, &answer));
+    is("reset of a timer never started", 11, reset(one));
+    is("fire after", 0, fire_after(one, 5, 7, 70));
+    is("cancel", 0, cancel(one));
+    is("cancel again", 0, cancel(one));
+    is("reset after cancel", 0, reset(one));
+    is("ticks left", 0, ticks_left(one));
     is("it waits again", 5, answer);
 }
 
 static void single_slot(void)
 {
-    is("lay out", 0, hc_lay_out(table, ONE_SLOT_WORDS, 1, 1));
-    is("create", 0, hc_create(table, ONE_SLOT_WORDS, 9, &answer));
-    is("create again", 5, hc_create(table, ONE_SLOT_WORDS, 9, &answer));
+    words = ONE_SLOT_WORDS;
+    is("lay out", 0, lay_out(1, 1));
+    is("create", 0, create(9));
+    is("create again", 5, create(9));
     is("answer", 0, answer);
-    is("delete", 0, hc_delete(table, ONE_SLOT_WORDS, one));
-    is("create after delete", 0, hc_create(table, ONE_SLOT_WORDS, 9, &answer));
+    is("delete", 0, delete(one));
+    is("create after delete", 0, create(9));
     is("the same id", 0x12010001, answer);
+    words = WORDS;
 }
 
-/* Ten lines, a call each: status, a space, answer. */
-static void session(char *text, size_t size)
+static char session_text[400];
+static size_t session_used;
+
+/* Notes a call of the session as its line: status, a space, answer. */
+static void line(uint32_t status)
 {
-    uint32_t statuses[10], answers[10] = {0};
-    for (int i = 0; i < LIST; i++)
-        list[i] = 1000 + (uint32_t)i;
-    statuses[0] = hc_lay_out(table, WORDS, SLOTS, 10);
-    statuses[1] = hc_create(table, WORDS, 1, &answers[1]);
-    statuses[2] = hc_create(table, WORDS, 2, &answers[2]);
-    statuses[3] = hc_fire_after(table, WORDS, one, 5, 7, 70);
-    statuses[4] = hc_fire_after(table, WORDS, two, 5, 8, 80);
+    int used = snprintf(session_text + session_used, sizeof session_text - session_used, "%" PRIu32 " %" PRIu32 "\n", status,
+                        answer);
+    session_used += (size_t)used;
+}
+
+static void session(void)
+{
+    static const char lines[] = "0 0\n0 302055425\n0 302055426\n0 0\n0 0\n0 0\n0 0\n0 0\n0 0\n0 2\n";
+    static const uint32_t fired[LIST] = {0x12010001, 7, 70, 0x12010002, 8, 80, 1006, 1007, 1008};
+    for (uint32_t i = 0; i < LIST; i++)
+        list[i] = 1000 + i;
+    line(lay_out(SLOTS, 10));
+    line(create(1));
+    line(create(2));
+    line(fire_after(one, 5, 7, 70));
+    line(fire_after(two, 5, 8, 80));
     is("word 5", 1, table[HEADER_FIRST_TICKING]);
     is("wait of slot 1", 5, table[slot_at(1, SLOT_WAIT)]);
     is("wait of slot 2", 0, table[slot_at(2, SLOT_WAIT)]);
-    for (int i = 5; i < 10; i++)
-        statuses[i] = hc_tick(table, WORDS, list, LIST, &answers[i]);
-    for (int i = 0; i < 10; i++) {
-        int used = snprintf(text, size, "%" PRIu32 " %" PRIu32 "\n", statuses[i], answers[i]);
-        text += used, size -= (size_t)used;
-    }
-    static const uint32_t fired[LIST] = {0x12010001, 7, 70, 0x12010002, 8, 80, 1006, 1007, 1008};
+    for (int i = 0; i < 5; i++)
+        line(tick());
     for (int i = 0; i < LIST; i++)
         is("list word", fired[i], list[i]);
+    if (strcmp(session_text, lines) != 0)
+        fail("session: expected the ten lines of the specification, came others");
 }
 
 int main(void)
 {
-    char text[400];
     begin("edges", 0);
-    watch();
     calendar();
     starts();
     cancels();
     single_slot();
-    session(text, sizeof text);
-    if (strcmp(text, "0 0\n0 302055425\n0 302055426\n0 0\n0 0\n0 0\n0 0\n0 0\n0 0\n0 2\n") != 0)
-        fail("session: expected the ten lines of the specification, came others");
+    session();
     printf("edges: %u checks\n", checks);
     return 0;
 }

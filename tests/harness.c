@@ -3,6 +3,7 @@
 #include "harness.h"
 
 #include <inttypes.h>
+#include <setjmp.h>
 #include <signal.h>
 #include <stdarg.h>
 #include <stdio.h>
@@ -41,30 +42,30 @@ bool one_in(uint32_t n)
 
 /* ---- Memory ---- */
 
-struct lent table_memory, list_memory;
+struct lent table_memory, other_table_memory, list_memory;
 
 enum { TABLE_PAGES = 3, LIST_PAGES = 1, CLOSED_PAGES = 3 };
+enum { OWN_FAILURE = 2 };   /* the exit status where not the library failed but the test */
 
 static void lend_pages(struct lent *memory, size_t pages)
 {
-    size_t page = (size_t)sysconf(_SC_PAGESIZE), bytes = pages * page;
-    char *at = mmap(NULL, bytes + CLOSED_PAGES * page, PROT_NONE, MAP_PRIVATE | MAP_ANONYMOUS, -1, 0);
-    if (at == MAP_FAILED || mprotect(at, bytes, PROT_READ | PROT_WRITE) != 0) {
-        puts("FAILED: no memory");
-        exit(2);
-    }
-    memory->base = (uint32_t *)(void *)at;
-    memory->total = bytes / sizeof(uint32_t);
-    memory->end = memory->base + memory->total;
+    size_t page = (size_t)sysconf(_SC_PAGESIZE), bytes = pages * page, closed = CLOSED_PAGES * page;
+    char *at = mmap(NULL, closed + bytes + closed, PROT_NONE, MAP_PRIVATE | MAP_ANONYMOUS, -1, 0);
     memory->expected = malloc(bytes);
+    if (at == MAP_FAILED || mprotect(at + closed, bytes, PROT_READ | PROT_WRITE) != 0 || memory->expected == NULL) {
+        puts("FAILED: no memory");
+        exit(OWN_FAILURE);
+    }
+    memory->base = (uint32_t *)(void *)(at + closed);
+    memory->total = bytes / sizeof(uint32_t);
+    fill_randomly(memory);
 }
 
 void lend(void)
 {
     lend_pages(&table_memory, TABLE_PAGES);
+    lend_pages(&other_table_memory, TABLE_PAGES);
     lend_pages(&list_memory, LIST_PAGES);
-    fill_randomly(&table_memory);
-    fill_randomly(&list_memory);
 }
 
 void fill_randomly(struct lent *memory)
@@ -72,6 +73,16 @@ void fill_randomly(struct lent *memory)
     for (size_t i = 0; i < memory->total; i++)
         memory->expected[i] = random_word();
     memcpy(memory->base, memory->expected, memory->total * sizeof(uint32_t));
+}
+
+uint32_t *slice_of(const struct lent *memory, size_t words, bool at_start)
+{
+    return at_start ? memory->base : memory->base + memory->total - words;
+}
+
+uint32_t *expected_of(const struct lent *memory, const uint32_t *word)
+{
+    return memory->expected + (word - memory->base);
 }
 
 /* ---- Failure ---- */
@@ -154,26 +165,67 @@ void fail(const char *format, ...)
     _exit(1);
 }
 
+/* ---- Signals ---- */
+
+static volatile sig_atomic_t in_library;        /* only then is a signal the library's */
+static volatile sig_atomic_t alarms_in_call;
+static sigjmp_buf before_call;
+
+enum { ALARM_SECONDS = 1, ALARMS_WITHOUT_END = 2, HANDLER_STACK = 1 << 16 };
+
+static void write_out(const char *text)
+{
+    if (write(STDOUT_FILENO, text, strlen(text)) < 0)
+        _exit(OWN_FAILURE);
+}
+
+/* A call that is still running at its second alarm has had a second of processor time or more. From the library the way
+ * out is a jump: the handler may not print. */
 static void stopped(int signal)
+{
+    if (signal == SIGVTALRM && (!in_library || ++alarms_in_call < ALARMS_WITHOUT_END))
+        return;
+    if (in_library)
+        siglongjmp(before_call, signal);
+    write_out("FAILED ");
+    write_out(place.program);
+    write_out(": the test itself was stopped by a signal, outside the library\n");
+    _exit(OWN_FAILURE);
+}
+
+static void report_stop(int signal)
 {
     if (signal == SIGVTALRM)
         fail("expected an end, came none");
-    fail("expected no word read or written outside the slices, came such a word (signal %d)", signal);
+    if (signal == SIGSEGV || signal == SIGBUS)
+        fail("expected no word read or written outside the slices, came such a word or too deep a stack (signal %d)", signal);
+    fail("expected the call to return, came signal %d", signal);
 }
 
-void watch(void)
+/* The handlers run on a stack of their own, since the library's may be used up. */
+static bool handle_signals(void)
 {
-    struct itimerval limit = {{0, 0}, {2, 0}};
-    setitimer(ITIMER_VIRTUAL, &limit, NULL);
+    static const int signals[] = {SIGSEGV, SIGBUS, SIGILL, SIGFPE, SIGTRAP, SIGABRT, SIGVTALRM};
+    static char stack[HANDLER_STACK];
+    stack_t own = {.ss_sp = stack, .ss_size = sizeof stack};
+    struct itimerval alarms = {{ALARM_SECONDS, 0}, {ALARM_SECONDS, 0}};
+    struct sigaction action = {.sa_handler = stopped, .sa_flags = SA_ONSTACK | SA_RESTART};
+    if (sigaltstack(&own, NULL) != 0)
+        return false;
+    for (size_t i = 0; i < sizeof signals / sizeof *signals; i++)
+        if (sigaction(signals[i], &action, NULL) != 0)
+            return false;
+    return setitimer(ITIMER_VIRTUAL, &alarms, NULL) == 0;
 }
 
 void begin(const char *program, uint64_t seed)
 {
     place = (struct place){.program = program, .seed = seed};
     random_seed(seed);
-    signal(SIGSEGV, stopped);
-    signal(SIGBUS, stopped);
-    signal(SIGVTALRM, stopped);
+    if (!handle_signals()) {
+        puts("FAILED: signals cannot be handled");
+        exit(OWN_FAILURE);
+    }
 }
 
 /* ---- Calls ---- */
@@ -217,6 +269,20 @@ static uint32_t call_library(const struct call *c, uint32_t *table, uint32_t *li
     abort();    /* there is no such call */
 }
 
+static uint32_t call_watched(const struct call *c, uint32_t *table, uint32_t *list)
+{
+    int signal = sigsetjmp(before_call, 0);
+    if (signal != 0) {
+        in_library = 0;
+        report_stop(signal);
+    }
+    alarms_in_call = 0;
+    in_library = 1;
+    uint32_t status = call_library(c, table, list);
+    in_library = 0;
+    return status;
+}
+
 static bool has_answer(enum call_kind kind)
 {
     return kind == CREATE || kind == IDENT || kind == TICKS_LEFT || kind == TICK || kind == SET_CLOCK;
@@ -234,7 +300,7 @@ void perform(const struct call *c, uint32_t *table, uint32_t *list, struct came 
     memcpy(answers_before, answers, sizeof answers);
     memcpy(times_before, times, sizeof times);
 
-    came->status = call_library(c, table, list);
+    came->status = call_watched(c, table, list);
 
     came->answer = has_answer(c->kind) ? answers[BESIDE] : 0;
     came->clock = (struct hc_wall_time){0, 0, 0, 0, 0, 0, 0};
@@ -259,23 +325,42 @@ static void name_word(ptrdiff_t word, char *text, size_t size)
                  fields[(word - HEADER_WORDS) % SLOT_WORDS]);
 }
 
-static void compare_memory(const struct lent *memory, bool is_table)
+/* The first word of the memory that is not as expected; NULL if all are. */
+static const uint32_t *difference(const struct lent *memory)
 {
     if (memcmp(memory->base, memory->expected, memory->total * sizeof(uint32_t)) == 0)
-        return;
-    char text[120];
+        return NULL;
     size_t i = 0;
     while (memory->base[i] == memory->expected[i])
         i++;
-    if (is_table)
-        name_word(memory->base + i - place.words, text, sizeof text);
-    else
-        snprintf(text, sizeof text, "list word %td",
-                 (ptrdiff_t)i - (ptrdiff_t)(memory->total - (place.call ? place.call->fired_words : 0)));
-    fail("%s: expected %" PRIu32 ", came %" PRIu32, text, memory->expected[i], memory->base[i]);
+    return memory->base + i;
 }
 
-void compare(const struct came *came, const struct outcome *expected)
+enum { WORD_TEXT = 120 };
+
+static void compare_table(const char *which, const struct lent *memory, const uint32_t *words)
+{
+    const uint32_t *word = difference(memory);
+    if (word == NULL)
+        return;
+    char text[WORD_TEXT];
+    name_word(word - words, text, sizeof text);
+    fail("%s%s: expected %" PRIu32 ", came %" PRIu32, which, text, *expected_of(memory, word), *word);
+}
+
+void compare_other(const struct lent *memory, const uint32_t *words)
+{
+    compare_table("another table's ", memory, words);
+}
+
+static void compare_list(void)
+{
+    const uint32_t *word = difference(&list_memory);
+    if (word != NULL)
+        fail("list word %td: expected %" PRIu32 ", came %" PRIu32, word - place.list, *expected_of(&list_memory, word), *word);
+}
+
+static void compare(const struct came *came, const struct outcome *expected)
 {
     if (came->status != expected->status)
         fail("expected status %" PRIu32 " (%s), came %" PRIu32, expected->status, reason_texts[expected->reason],
@@ -291,8 +376,8 @@ void compare(const struct came *came, const struct outcome *expected)
     }
     if (came->beside)
         fail("expected the words beside the answer and the wall time given to stay, came a change");
-    compare_memory(&table_memory, true);
-    compare_memory(&list_memory, false);
+    compare_table("", place.memory, place.words);
+    compare_list();
 }
 
 /* ---- What was met ---- */
@@ -301,13 +386,31 @@ enum { STATUSES = 102 };
 static uint64_t by_status[CALLS][STATUSES], by_reason[CALLS][REASONS];
 static bool by_pair[CALLS][STATUSES][STATUSES];
 
-void note(enum call_kind kind, const struct outcome *outcome)
+static void note(enum call_kind kind, const struct outcome *outcome)
 {
     by_status[kind][outcome->status]++;
     by_reason[kind][outcome->reason]++;
     for (int reason = 1; reason < REASONS; reason++)
         if (outcome->applying >> reason & 1)
             by_pair[kind][outcome->status][reason_statuses[reason]] = true;
+}
+
+/* What an accepted call leaves becomes what table and list should be. */
+static void expect_words(const struct outcome *expected, const struct oracle *after)
+{
+    oracle_encode(after, expected_of(place.memory, place.words));
+    if (place.call->kind == TICK || place.call->kind == SET_CLOCK)
+        memcpy(expected_of(&list_memory, place.list), expected->fired, list_words(expected->answer) * sizeof(uint32_t));
+}
+
+void try_call(const struct outcome *expected, const struct oracle *after)
+{
+    struct came came;
+    if (expected->status == HC_SUCCESSFUL)
+        expect_words(expected, after);
+    perform(place.call, place.words, place.list, &came);
+    compare(&came, expected);
+    note(place.call->kind, expected);
 }
 
 void report_met(void)

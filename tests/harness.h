@@ -11,15 +11,21 @@ uint32_t random_word(void);
 uint32_t below(uint32_t limit);
 bool one_in(uint32_t n);
 
-/* ---- Memory that ends where reading or writing further stops the program ---- */
+/* ---- Memory between pages that stop the program when they are read or written ---- */
 struct lent {
-    uint32_t *base, *end;   /* the words that exist; the page at end may not be touched */
+    uint32_t *base;         /* the words that exist */
     uint32_t *expected;     /* what each of them should be */
     size_t total;
 };
-extern struct lent table_memory, list_memory;
+extern struct lent table_memory, other_table_memory, list_memory;
 void lend(void);
 void fill_randomly(struct lent *memory);
+
+/* So many words at the start of the memory or at its end, right beside the closed page there. */
+uint32_t *slice_of(const struct lent *memory, size_t words, bool at_start);
+
+/* Where it stands what this word of the memory should be. */
+uint32_t *expected_of(const struct lent *memory, const uint32_t *word);
 
 /* ---- Calls ---- */
 struct came {
@@ -27,10 +33,16 @@ struct came {
     struct hc_wall_time clock;
     bool beside;            /* a word beside the answer, or the wall time given, was changed */
 };
+
+/* Makes the call. One that touches a closed page, overruns the stack or does not end is a failure. */
 void perform(const struct call *call, uint32_t *table, uint32_t *list, struct came *came);
 
-/* Fails unless status and answers are as expected, and the memory of table and list too. */
-void compare(const struct came *came, const struct outcome *expected);
+/* Makes the call that place tells, notes it, and fails unless status, answers and the memory are as expected: for an
+ * accepted call the state after it, and what it lists. */
+void try_call(const struct outcome *expected, const struct oracle *after);
+
+/* Fails unless the words of another table are as expected too. */
+void compare_other(const struct lent *memory, const uint32_t *words);
 
 /* ---- Failure: one line, exit status 1 ---- */
 struct place {
@@ -38,7 +50,8 @@ struct place {
     uint64_t seed;
     uint64_t table, number;         /* the table's number, and the call's on it, both from 1 */
     const struct call *call;
-    const uint32_t *words;          /* where the table's slice begins */
+    const struct lent *memory;      /* of the table; its slice begins at words, and the fired list at list */
+    uint32_t *words, *list;
 };
 extern struct place place;
 void begin(const char *program, uint64_t seed);
@@ -46,10 +59,8 @@ void fail(const char *format, ...) __attribute__((format(printf, 1, 2), noreturn
 enum { TIME_TEXT = 120, CALL_TEXT = 400 };      /* characters that suffice for any */
 void describe_time(const struct hc_wall_time *time, char text[TIME_TEXT]);
 void describe_call(const struct call *call, char text[CALL_TEXT]);
-void watch(void);   /* the next calls may take two seconds of processor time in all */
 
 /* ---- What was met ---- */
-void note(enum call_kind kind, const struct outcome *outcome);
 void report_met(void);
 unsigned report_not_met(void);  /* prints each case not met and gives their number */
 

@@ -313,7 +313,6 @@ int main(int count, char **arguments)
         c.words = table_words(c.slots);
         span = spans[below(4)];
         place.table++, place.number = 0;
-        watch();
         make(&c, table);
         for (uint32_t i = 0; i < 1000; i++) {
             random_history_call(&c, table_words(slots));

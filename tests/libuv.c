@@ -29,6 +29,7 @@ int clock_getres(clockid_t clock, struct timespec *step)
 }
 
 enum { SLOTS = 200 };
+static uv_loop_t *loop;
 static uv_timer_t timers[SLOTS + 1];
 static uint32_t interval[SLOTS + 1];    /* of the last start; 0 before the first */
 static uint32_t fired[SLOTS], fired_count;
@@ -40,6 +41,13 @@ static void note_fired(uv_timer_t *timer)
 }
 
 static uint32_t table[HC_TABLE_WORDS(SLOTS)], list[HC_LIST_WORDS(SLOTS)];
+
+/* libuv answers 0 or an error's number. */
+static void uv_must(int result)
+{
+    if (result != 0)
+        fail("the test itself: expected libuv to do as it was asked, came %s", uv_strerror(result));
+}
 
 static void make(struct call *c, uint32_t expected_status, struct came *came)
 {
@@ -55,8 +63,8 @@ static void start(struct call *c, uint32_t index, uint32_t ticks)
     struct came came;
     make(c, 0, &came);
     interval[index] = ticks;
-    uv_timer_stop(&timers[index]);
-    uv_timer_start(&timers[index], note_fired, ticks, 0);
+    uv_must(uv_timer_stop(&timers[index]));
+    uv_must(uv_timer_start(&timers[index], note_fired, ticks, 0));
 }
 
 static void expect_left(uint32_t index)
@@ -75,8 +83,8 @@ static void tick(void)
     struct call c = {.kind = TICK, .fired_words = HC_LIST_WORDS(SLOTS)};
     milliseconds++;
     fired_count = 0;
-    uv_update_time(uv_default_loop());
-    uv_run(uv_default_loop(), UV_RUN_NOWAIT);
+    uv_update_time(loop);
+    uv_run(loop, UV_RUN_NOWAIT);    /* answers whether timers still wait, and no error */
     make(&c, 0, &came);
     if (came.answer != fired_count)
         fail("expected %" PRIu32 " fired as by libuv, came %" PRIu32, fired_count, came.answer);
@@ -109,7 +117,7 @@ static void one_call(void)
     case 4:
         c.kind = CANCEL;
         make(&c, 0, &came);
-        uv_timer_stop(&timers[index]);
+        uv_must(uv_timer_stop(&timers[index]));
         break;
     case 5:
         expect_left(index);
@@ -126,18 +134,18 @@ int main(int count, char **arguments)
     struct call lay_out = {.kind = LAY_OUT, .slots = SLOTS, .ticks_per_second = 1000};
     struct came came;
     begin("libuv", seed);
+    loop = uv_default_loop();
+    if (loop == NULL)
+        fail("the test itself: expected libuv to have a loop, came none");
     place.table = 1;
     make(&lay_out, 0, &came);
     for (uint32_t i = 1; i <= SLOTS; i++) {
         struct call create = {.kind = CREATE, .name = i};
         make(&create, 0, &came);
-        uv_timer_init(uv_default_loop(), &timers[i]);
+        uv_must(uv_timer_init(loop, &timers[i]));
     }
-    while (calls < wanted) {
-        if (calls % 1000 == 0)
-            watch();
+    while (calls < wanted)
         one_call();
-    }
     printf("libuv %s: seed %" PRIu64 ", %" PRIu64 " calls, %" PRIu64 " timers fired\n", uv_version_string(), seed, calls,
            fires);
     if (fires == 0)
