@@ -1,5 +1,6 @@
 /* libuv's timers on a clock of our own, one millisecond a tick, as a second timer list for interval timers: the same
- * timers must fire, in the same order among equals, and as many ticks must be left.
+ * timers must fire, in the same order among equals, each with routine and data of its last start, and as many ticks must be
+ * left.
  * Arguments: seed, number of calls. */
 #define _DEFAULT_SOURCE
 #include "harness.h"
@@ -31,7 +32,7 @@ int clock_getres(clockid_t clock, struct timespec *step)
 enum { SLOTS = 200 };
 static uv_loop_t *loop;
 static uv_timer_t timers[SLOTS + 1];
-static uint32_t interval[SLOTS + 1];    /* of the last start; 0 before the first */
+static struct { uint32_t ticks, routine, data; } last_start[SLOTS + 1];     /* ticks 0 before the first */
 static uint32_t fired[SLOTS], fired_count;
 static uint64_t calls, fires;
 
@@ -58,13 +59,15 @@ static void make(struct call *c, uint32_t expected_status, struct came *came)
         fail("expected status %" PRIu32 ", came %" PRIu32, expected_status, came->status);
 }
 
-static void start(struct call *c, uint32_t index, uint32_t ticks)
+/* By fire after, which brings new arguments, or by reset, which takes the last ones again. */
+static void start(struct call *c, uint32_t index)
 {
     struct came came;
     make(c, 0, &came);
-    interval[index] = ticks;
+    if (c->kind == FIRE_AFTER)
+        last_start[index].ticks = c->ticks, last_start[index].routine = c->routine, last_start[index].data = c->data;
     uv_must(uv_timer_stop(&timers[index]));
-    uv_must(uv_timer_start(&timers[index], note_fired, ticks, 0));
+    uv_must(uv_timer_start(&timers[index], note_fired, last_start[index].ticks, 0));
 }
 
 static void expect_left(uint32_t index)
@@ -75,6 +78,17 @@ static void expect_left(uint32_t index)
     uint64_t left = uv_is_active((uv_handle_t *)&timers[index]) ? uv_timer_get_due_in(&timers[index]) : 0;
     if (came.answer != left)
         fail("expected %" PRIu64 " ticks left as libuv says, came %" PRIu32, left, came.answer);
+}
+
+static void expect_entry(uint32_t k)
+{
+    uint32_t index = fired[k], id = list[fired_at(k, FIRED_ID)];
+    uint32_t routine = list[fired_at(k, FIRED_ROUTINE)], data = list[fired_at(k, FIRED_DATA)];
+    if (id != ID_BASE + index)
+        fail("place %" PRIu32 " of the fired: expected slot %" PRIu32 " as by libuv, came id 0x%" PRIx32, k, index, id);
+    if (routine != last_start[index].routine || data != last_start[index].data)
+        fail("place %" PRIu32 " of the fired: expected routine %" PRIu32 " and data %" PRIu32 ", came %" PRIu32
+             " and %" PRIu32, k, last_start[index].routine, last_start[index].data, routine, data);
 }
 
 static void tick(void)
@@ -88,31 +102,30 @@ static void tick(void)
     make(&c, 0, &came);
     if (came.answer != fired_count)
         fail("expected %" PRIu32 " fired as by libuv, came %" PRIu32, fired_count, came.answer);
-    for (uint32_t i = 0; i < fired_count; i++)
-        if (list[fired_at(i, FIRED_ID)] != ID_BASE + fired[i])
-            fail("place %" PRIu32 " of the fired: expected slot %" PRIu32 " as by libuv, came id 0x%" PRIx32, i, fired[i],
-                 list[fired_at(i, FIRED_ID)]);
+    for (uint32_t k = 0; k < fired_count; k++)
+        expect_entry(k);
     fires += fired_count;
 }
 
 static void one_call(void)
 {
     uint32_t index = 1 + below(SLOTS), ticks = 1 + below(one_in(3) ? 40 : 6);
-    struct call c = {.id = ID_BASE + index, .ticks = one_in(100) ? 0xffffffffu : ticks, .routine = 7, .data = index};
+    struct call c = {.id = ID_BASE + index, .ticks = one_in(100) ? UINT32_MAX : ticks};
+    c.routine = 1 + below(UINT32_MAX), c.data = random_word();
     struct came came;
     switch (below(8)) {
     case 0:
     case 1:
     case 2:
         c.kind = FIRE_AFTER;
-        start(&c, index, c.ticks);
+        start(&c, index);
         break;
     case 3:
         c.kind = RESET;
-        if (interval[index] == 0)
-            make(&c, 11, &came);
+        if (last_start[index].ticks == 0)
+            make(&c, HC_NOT_DEFINED, &came);
         else
-            start(&c, index, interval[index]);
+            start(&c, index);
         break;
     case 4:
         c.kind = CANCEL;
