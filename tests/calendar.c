@@ -6,7 +6,6 @@
 
 #include <inttypes.h>
 #include <stdio.h>
-#include <stdlib.h>
 #include <string.h>
 
 enum { FIRST_YEAR = 1988, LAST_YEAR = 2099, WORDS = HC_TABLE_WORDS(1), LIST = HC_LIST_WORDS(1), DAY = 86400 };
@@ -77,7 +76,7 @@ static void try_triples(void)
 
 int main(int count, char **arguments)
 {
-    uint64_t seed = count > 1 ? strtoull(arguments[1], NULL, 0) : 1;
+    uint64_t seed = number_argument(count, arguments, 1, 1);
     struct came came;
     begin("calendar", seed);
     place.table = 1;

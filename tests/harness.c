@@ -2,6 +2,8 @@
 #define _DEFAULT_SOURCE
 #include "harness.h"
 
+#include <ctype.h>
+#include <errno.h>
 #include <inttypes.h>
 #include <setjmp.h>
 #include <signal.h>
@@ -12,6 +14,23 @@
 #include <sys/mman.h>
 #include <sys/time.h>
 #include <unistd.h>
+
+enum { OWN_FAILURE = 2 };   /* the exit status where not the library failed but the test */
+
+uint64_t number_argument(int count, char **arguments, int which, uint64_t otherwise)
+{
+    if (which >= count)
+        return otherwise;
+    char *end;
+    const char *text = arguments[which];
+    errno = 0;
+    uint64_t number = strtoull(text, &end, 10);
+    if (errno != 0 || !isdigit((unsigned char)*text) || *end != '\0') {
+        printf("FAILED: '%s' is not a number of at most 64 bits\n", text);
+        exit(OWN_FAILURE);
+    }
+    return number;
+}
 
 /* ---- Random numbers ---- */
 
@@ -45,8 +64,6 @@ bool one_in(uint32_t n)
 struct lent table_memory, other_table_memory, list_memory;
 
 enum { TABLE_PAGES = 3, LIST_PAGES = 1, CLOSED_PAGES = 3 };
-enum { OWN_FAILURE = 2 };   /* the exit status where not the library failed but the test */
-
 static void lend_pages(struct lent *memory, size_t pages)
 {
     size_t page = (size_t)sysconf(_SC_PAGESIZE), bytes = pages * page, closed = CLOSED_PAGES * page;

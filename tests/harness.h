@@ -5,6 +5,9 @@
 
 #include "oracle.h"
 
+/* The argument at this place, a decimal number, or another number where it is not given. */
+uint64_t number_argument(int count, char **arguments, int which, uint64_t otherwise);
+
 /* ---- Random numbers: the same for the same seed ---- */
 void random_seed(uint64_t seed);
 uint32_t random_word(void);

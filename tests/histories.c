@@ -7,7 +7,6 @@
 
 #include <inttypes.h>
 #include <stdio.h>
-#include <stdlib.h>
 #include <string.h>
 
 /* A start that has not ended. The vector holds them in the order in which they were made. */
@@ -303,8 +302,8 @@ static void make(struct call *c, uint32_t *table)
 
 int main(int count, char **arguments)
 {
-    uint64_t seed = count > 1 ? strtoull(arguments[1], NULL, 0) : 1;
-    uint64_t wanted = count > 2 ? strtoull(arguments[2], NULL, 0) : 1000000;
+    uint64_t seed = number_argument(count, arguments, 1, 1);
+    uint64_t wanted = number_argument(count, arguments, 2, 1000000);
     static uint32_t table[MAX_TABLE];
     begin("histories", seed);
     while (calls < wanted) {

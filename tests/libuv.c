@@ -7,7 +7,6 @@
 
 #include <inttypes.h>
 #include <stdio.h>
-#include <stdlib.h>
 #include <time.h>
 #include <uv.h>
 
@@ -142,8 +141,8 @@ static void one_call(void)
 
 int main(int count, char **arguments)
 {
-    uint64_t seed = count > 1 ? strtoull(arguments[1], NULL, 0) : 1;
-    uint64_t wanted = count > 2 ? strtoull(arguments[2], NULL, 0) : 1000000;
+    uint64_t seed = number_argument(count, arguments, 1, 1);
+    uint64_t wanted = number_argument(count, arguments, 2, 1000000);
     struct call lay_out = {.kind = LAY_OUT, .slots = SLOTS, .ticks_per_second = 1000};
     struct came came;
     begin("libuv", seed);

@@ -5,7 +5,6 @@
 
 #include <inttypes.h>
 #include <stdio.h>
-#include <stdlib.h>
 #include <string.h>
 
 static struct outcome expected;
@@ -142,8 +141,8 @@ static void try_two_tables(void)
 
 int main(int count, char **arguments)
 {
-    uint64_t seed = count > 1 ? strtoull(arguments[1], NULL, 0) : 1;
-    uint64_t wanted = count > 2 ? strtoull(arguments[2], NULL, 0) : 1000000;
+    uint64_t seed = number_argument(count, arguments, 1, 1);
+    uint64_t wanted = number_argument(count, arguments, 2, 1000000);
     begin("sequences", seed);
     lend();
     while (calls < wanted) {
