@@ -5,15 +5,8 @@
 #include <stdbool.h>
 #include <string.h>
 
-/* Limits, header words, slot words and kinds; include/heathcinder.h draws the table. */
-enum { MAX_SLOTS = 255, MAX_TICKS_PER_SECOND = 1000, FIRED_WORDS = 3 };
-enum { SLOTS, TICKS_PER_SECOND, CLOCK_SET, SECONDS, CLOCK_TICKS, FIRST_TICKING, FIRST_DATED, ZEROS };
-enum { HEADER_WORDS = 10, SLOT_WORDS = 8 };
-enum { KIND, NAME, INTERVAL, WAIT, ROUTINE, DATA, NEXT, PREVIOUS };
-enum { FREE, NEVER_STARTED, IDLE_TICKING, IDLE_DATED, TICKING, DATED };
 enum { IDLE_OF_WAITING = TICKING - IDLE_TICKING };
 
-#define ID_BASE 0x12010000u
 #define LAST_SECOND 3534451199u
 
 enum { FIRST_YEAR = 1988, LAST_YEAR = 2099, LEAP_CYCLE = 4, DAYS_OF_CYCLE = 1461, DAYS_OF_YEAR = 365 };

@@ -1,4 +1,4 @@
-/* The calls of include/heathcinder.h in plain C, under the prefix plain_ or another one. */
+/* The calls of include/heathcinder.h in plain C, under the prefix plain_ or another one, and the layout's numbers. */
 #ifndef BASELINE_H
 #define BASELINE_H
 
@@ -10,6 +10,14 @@
 #define BASELINE_JOIN2(prefix, name) prefix##name
 #define BASELINE_JOIN(prefix, name) BASELINE_JOIN2(prefix, name)
 #define CALL(name) BASELINE_JOIN(BASELINE_PREFIX, name)
+
+/* Limits, header words, slot words and kinds; include/heathcinder.h draws the table. */
+enum { MAX_SLOTS = 255, MAX_TICKS_PER_SECOND = 1000, FIRED_WORDS = 3 };
+enum { SLOTS, TICKS_PER_SECOND, CLOCK_SET, SECONDS, CLOCK_TICKS, FIRST_TICKING, FIRST_DATED, ZEROS };
+enum { HEADER_WORDS = 10, SLOT_WORDS = 8 };
+enum { KIND, NAME, INTERVAL, WAIT, ROUTINE, DATA, NEXT, PREVIOUS };
+enum { FREE, NEVER_STARTED, IDLE_TICKING, IDLE_DATED, TICKING, DATED };
+#define ID_BASE 0x12010000u
 
 uint32_t CALL(lay_out)(uint32_t *table, size_t words, uint32_t slots, uint32_t ticks_per_second);
 uint32_t CALL(create)(uint32_t *table, size_t words, uint32_t name, uint32_t *id);

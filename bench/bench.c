@@ -1,19 +1,22 @@
-/* Times each call of the library and of baseline.c on the same tables, interleaved, and prints the least time of each,
- * net of the loop around it: call, slots, library and baseline in nanoseconds. bench/run does this for several places of
- * the code in memory. Both sides must answer the same and leave the same words.
+/* Times each call of the library and of baseline.c on the same tables, interleaved, and prints the least time of each, net
+ * of the same loop around a call that does nothing: call, slots, library and baseline in nanoseconds, with tabs between.
+ * Lines that begin with '#' say which tables were used. bench/run does this for several places of the code in memory. Both
+ * sides must answer the same and leave the same words.
  * Argument: rounds. */
 #define _DEFAULT_SOURCE
 #include "baseline.h"
 
+#include <inttypes.h>
 #include <stdio.h>
 #include <stdlib.h>
 #include <string.h>
 #include <time.h>
 
-enum { MAX_SLOTS = 255, WORDS = 10 + 8 * MAX_SLOTS, LIST = 3 * MAX_SLOTS, TICKS_PER_SECOND = 100 };
-#define ID(index) (0x12010000u + (index))
+enum { WORDS = HC_TABLE_WORDS(MAX_SLOTS), LIST = HC_LIST_WORDS(MAX_SLOTS), RATE = 100, ROUTINE_NUMBER = 7, NEW_NAME = 7777 };
+#define ID(index) (ID_BASE + (index))
 
-/* One side's calls. */
+/* ---- The sides ---- */
+
 struct side {
     uint32_t (*lay_out)(uint32_t *, size_t, uint32_t, uint32_t);
     uint32_t (*create)(uint32_t *, size_t, uint32_t, uint32_t *);
@@ -35,48 +38,78 @@ static const struct side plain = {plain_lay_out, plain_create, plain_ident, plai
                                   plain_fire_when, plain_reset, plain_ticks_left, plain_tick, plain_set_clock,
                                   plain_get_clock};
 
-/* What every case works on: the answers, and the slots it is about. */
+/* Calls that do nothing. Their time is what the loop and the way into a call take, and is taken off from both others. */
+static uint32_t no_change(uint32_t *t, size_t n, uint32_t id) { return (void)t, (void)n, (void)id, 0; }
+static uint32_t no_answer(const uint32_t *t, size_t n, uint32_t x, uint32_t *a) { return (void)t, (void)n, (void)x, (void)a, 0; }
+static uint32_t no_lay_out(uint32_t *t, size_t n, uint32_t s, uint32_t r) { return (void)t, (void)n, (void)s, (void)r, 0; }
+static uint32_t no_create(uint32_t *t, size_t n, uint32_t name, uint32_t *a) { return no_answer(t, n, name, a); }
+static uint32_t no_fire_after(uint32_t *t, size_t n, uint32_t id, uint32_t ticks, uint32_t r, uint32_t d)
+{
+    return (void)t, (void)n, (void)id, (void)ticks, (void)r, (void)d, 0;
+}
+static uint32_t no_fire_when(uint32_t *t, size_t n, uint32_t id, const struct hc_wall_time *w, uint32_t r, uint32_t d)
+{
+    return (void)t, (void)n, (void)id, (void)w, (void)r, (void)d, 0;
+}
+static uint32_t no_tick(uint32_t *t, size_t n, uint32_t *l, size_t m, uint32_t *a)
+{
+    return (void)t, (void)n, (void)l, (void)m, (void)a, 0;
+}
+static uint32_t no_set_clock(uint32_t *t, size_t n, const struct hc_wall_time *w, uint32_t *l, size_t m, uint32_t *a)
+{
+    return (void)t, (void)n, (void)w, (void)l, (void)m, (void)a, 0;
+}
+static uint32_t no_get_clock(const uint32_t *t, size_t n, struct hc_wall_time *w) { return (void)t, (void)n, (void)w, 0; }
+
+static const struct side nothing = {no_lay_out, no_create, no_answer, no_change, no_change, no_fire_after,
+                                    no_fire_when, no_change, no_answer, no_tick, no_set_clock, no_get_clock};
+
+/* ---- What every case works on: the table, the answers, and the timers it is about ---- */
+
 static uint32_t table[WORDS], start_table[WORDS], list[LIST], answer;
 static struct hc_wall_time now_answer;
 static const struct hc_wall_time present = {2024, 2, 29, 12, 0, 0, 0};
-static struct hc_wall_time later = {2024, 2, 29, 12, 0, 0, 0};
-static uint32_t slots, words, ticking, dated, idle;
+static struct hc_wall_time dates[MAX_SLOTS + 1];    /* for which each timer was last started */
+static uint32_t slots, words;
+static uint32_t ticking, dated, idle;               /* in the middle of their chain, or started into it */
+static uint32_t ticks_to_start, ticking_last, name_amid;
 
-static uint32_t do_lay_out(const struct side *s) { return s->lay_out(table, words, slots, TICKS_PER_SECOND); }
-static uint32_t do_create(const struct side *s) { return s->create(table, words, 77, &answer); }
-static uint32_t do_ident(const struct side *s) { return s->ident(table, words, ticking, &answer); }
+static uint32_t do_lay_out(const struct side *s) { return s->lay_out(table, words, slots, RATE); }
+static uint32_t do_create(const struct side *s) { return s->create(table, words, NEW_NAME, &answer); }
+static uint32_t do_ident(const struct side *s) { return s->ident(table, words, name_amid, &answer); }
 static uint32_t do_cancel(const struct side *s) { return s->cancel(table, words, ID(ticking)); }
 static uint32_t do_delete(const struct side *s) { return s->delete(table, words, ID(dated)); }
-static uint32_t do_fire_after(const struct side *s) { return s->fire_after(table, words, ID(ticking), 2 * slots, 7, 70); }
-static uint32_t do_fire_when(const struct side *s) { return s->fire_when(table, words, ID(dated), &later, 7, 70); }
+static uint32_t do_fire_after(const struct side *s)
+{
+    return s->fire_after(table, words, ID(ticking), ticks_to_start, ROUTINE_NUMBER, 0);
+}
+static uint32_t do_fire_when(const struct side *s)
+{
+    return s->fire_when(table, words, ID(dated), &dates[dated], ROUTINE_NUMBER, 0);
+}
 static uint32_t do_reset(const struct side *s) { return s->reset(table, words, ID(idle)); }
 static uint32_t do_ticks_left(const struct side *s) { return s->ticks_left(table, words, ID(ticking), &answer); }
+static uint32_t do_last_ticks_left(const struct side *s) { return s->ticks_left(table, words, ID(ticking_last), &answer); }
 static uint32_t do_tick(const struct side *s) { return s->tick(table, words, list, LIST, &answer); }
-static uint32_t do_set_clock(const struct side *s) { return s->set_clock(table, words, &later, list, LIST, &answer); }
+static uint32_t do_set_clock(const struct side *s) { return s->set_clock(table, words, &dates[dated], list, LIST, &answer); }
 static uint32_t do_get_clock(const struct side *s) { return s->get_clock(table, words, &now_answer); }
 
-/* Ticks that fire: one interval timer, or one dated timer at a new second. */
-static void next_tick_fires(void) { table[10 + 8 * (table[5] - 1) + 3] = 1; }
-static void next_tick_is_a_date(void)
+static uint32_t *slot(uint32_t index)
 {
-    table[3] = table[10 + 8 * (table[6] - 1) + 3] - 1;
-    table[4] = TICKS_PER_SECOND - 1;
+    return table + HEADER_WORDS + SLOT_WORDS * (index - 1);
 }
 
-static const struct bench {
-    const char *name;
-    uint32_t (*call)(const struct side *);
-    void (*prepare)(void);
-} benches[] = {
-    {"lay_out", do_lay_out, NULL}, {"create", do_create, NULL}, {"ident", do_ident, NULL}, {"cancel", do_cancel, NULL},
-    {"delete", do_delete, NULL}, {"fire_after", do_fire_after, NULL}, {"fire_when", do_fire_when, NULL},
-    {"reset", do_reset, NULL}, {"ticks_left", do_ticks_left, NULL}, {"tick", do_tick, NULL},
-    {"tick_fires", do_tick, next_tick_fires}, {"tick_date", do_tick, next_tick_is_a_date},
-    {"set_clock", do_set_clock, NULL}, {"get_clock", do_get_clock, NULL}};
+/* Ticks that fire: one interval timer, or one dated timer at a new second. */
+static void next_tick_fires(void) { slot(table[FIRST_TICKING])[WAIT] = 1; }
+static void next_tick_is_a_date(void)
+{
+    table[SECONDS] = slot(table[FIRST_DATED])[WAIT] - 1;
+    table[CLOCK_TICKS] = RATE - 1;
+}
 
-/* ---- Tables: of eight slots one free, one never started, two idle, two waiting for ticks and two for a date ---- */
+/* ---- Tables ---- */
 
-static uint32_t random_state = 12345;
+static uint32_t random_state;
 
 static uint32_t below(uint32_t limit)
 {
@@ -84,7 +117,15 @@ static uint32_t below(uint32_t limit)
     return (uint32_t)((uint64_t)random_state * limit >> 32);
 }
 
-/* The slots in an order that is not theirs. */
+static void must(const char *call, uint32_t status)
+{
+    if (status == HC_SUCCESSFUL)
+        return;
+    printf("FAILED bench: %s gave status %" PRIu32 " when a table of %" PRIu32 " slots was set up\n", call, status, slots);
+    exit(1);
+}
+
+/* The slots in an order that is not theirs, so that a chain goes to and fro in memory. */
 static void shuffle(uint32_t *order)
 {
     for (uint32_t i = 0; i < slots; i++) {
@@ -94,51 +135,146 @@ static void shuffle(uint32_t *order)
     }
 }
 
-static void start_slot(uint32_t index)
+static void start_ticks(uint32_t index, uint32_t ticks)
 {
-    struct hc_wall_time when = present;
-    when.minute = 1 + below(50), when.second = below(60);
-    switch (index % 8) {
-    case 1:
-        return;
-    case 0:
-    case 2:
-    case 4:
-    case 6:
-        plain_fire_after(table, words, ID(index), 2 + below(4 * slots), 7, index);
-        break;
-    default:
-        plain_fire_when(table, words, ID(index), &when, 8, index);
-    }
-    if (index % 8 == 2 || index % 8 == 3)
-        plain_cancel(table, words, ID(index));
+    must("fire after", plain_fire_after(table, words, ID(index), ticks, ROUTINE_NUMBER, index));
 }
 
-static void build(uint32_t how_many)
+/* For two ticks or more, so that the next tick does not fire it. */
+static void start_far(uint32_t index)
+{
+    start_ticks(index, 2 + below(4 * slots));
+}
+
+static void start_date(uint32_t index)
+{
+    dates[index] = present;
+    dates[index].minute = 1 + below(50), dates[index].second = below(60);
+    must("fire when", plain_fire_when(table, words, ID(index), &dates[index], ROUTINE_NUMBER, index));
+}
+
+static void start_mixed(uint32_t index)
+{
+    enum { NO_LONGER, NEVER, IDLE_BY_TICKS, IDLE_BY_DATE, BY_TICKS, BY_DATE, ALSO_BY_TICKS, ALSO_BY_DATE, ROLES };
+    uint32_t role = index % ROLES;
+    if (role == IDLE_BY_TICKS || role == BY_TICKS || role == ALSO_BY_TICKS)
+        start_far(index);
+    if (role == IDLE_BY_DATE || role == BY_DATE || role == ALSO_BY_DATE)
+        start_date(index);
+    if (role == IDLE_BY_TICKS || role == IDLE_BY_DATE)
+        must("cancel", plain_cancel(table, words, ID(index)));
+    if (role == NO_LONGER)
+        must("delete", plain_delete(table, words, ID(index)));
+}
+
+static void start_at_once(uint32_t index) { start_ticks(index, 1); }
+
+/* Of eight slots one is free, one never started, two idle, two wait for ticks and two for a date; or all wait for ticks, each
+ * for its own; or all for the next tick. */
+static const struct filling {
+    const char *name;
+    void (*start)(uint32_t index);
+} mixed = {"mixed", start_mixed}, full = {"full", start_far}, due = {"due", start_at_once};
+
+static uint32_t chain_length(uint32_t first)
+{
+    uint32_t length = 0;
+    for (uint32_t i = table[first]; i != 0; i = slot(i)[NEXT])
+        length++;
+    return length;
+}
+
+/* The slot so many links behind the chain's first one. */
+static uint32_t nth_of_chain(uint32_t first, uint32_t n)
+{
+    uint32_t index = table[first];
+    while (n-- > 0)
+        index = slot(index)[NEXT];
+    return index;
+}
+
+static uint32_t left_of(uint32_t index)
+{
+    must("ticks left", plain_ticks_left(table, words, ID(index), &answer));
+    return answer;
+}
+
+/* The first slot from this one on that is of one of these kinds. */
+static uint32_t slot_of_kind(uint32_t index, uint32_t least_kind, uint32_t most_kind)
+{
+    while (slot(index)[KIND] < least_kind || slot(index)[KIND] > most_kind)
+        index++;
+    return index;
+}
+
+/* Restarts go to where the timer in the middle is due; an idle timer gets the same ticks for its reset. The name is that of
+ * a slot amid the table. */
+static void choose_middle(void)
+{
+    ticking = nth_of_chain(FIRST_TICKING, chain_length(FIRST_TICKING) / 2);
+    dated = nth_of_chain(FIRST_DATED, chain_length(FIRST_DATED) / 2);
+    ticks_to_start = left_of(ticking);
+    name_amid = slot(slot_of_kind(slots / 2, NEVER_STARTED, DATED))[NAME];
+    idle = slot_of_kind(1, IDLE_TICKING, IDLE_TICKING);
+    start_ticks(idle, ticks_to_start);
+    must("cancel", plain_cancel(table, words, ID(idle)));
+}
+
+/* The longest ways: the first timer goes behind all others, and the last one's ticks are added up. */
+static void choose_worst(void)
+{
+    ticking = table[FIRST_TICKING];
+    ticking_last = nth_of_chain(FIRST_TICKING, slots - 1);
+    ticks_to_start = left_of(ticking_last) + 1;
+}
+
+static void build(uint32_t how_many, const struct filling *filling)
 {
     uint32_t order[MAX_SLOTS];
+    random_state = 12345;
     slots = how_many, words = HC_TABLE_WORDS(slots);
-    plain_lay_out(table, words, slots, TICKS_PER_SECOND);
-    plain_set_clock(table, words, &present, list, LIST, &answer);
+    must("lay out", plain_lay_out(table, words, slots, RATE));
+    must("set clock", plain_set_clock(table, words, &present, list, LIST, &answer));
     for (uint32_t i = 1; i <= slots; i++)
-        plain_create(table, words, i, &answer);
+        must("create", plain_create(table, words, i, &answer));
     shuffle(order);
     for (uint32_t i = 0; i < slots; i++)
-        start_slot(order[i]);
-    for (uint32_t i = 8; i <= slots; i += 8)
-        plain_delete(table, words, ID(i));
-    ticking = slots / 16 * 8 + 4, dated = slots / 16 * 8 + 5, idle = slots / 16 * 8 + 2;
-    later.minute = 26;
+        filling->start(order[i]);
+    if (filling == &mixed)
+        choose_middle();
+    else
+        choose_worst();
     memcpy(start_table, table, sizeof table);
 }
+
+static void describe(const struct filling *filling)
+{
+    printf("# %s table, %" PRIu32 " slots: %" PRIu32 " wait for ticks, %" PRIu32 " for a date\n", filling->name, slots,
+           chain_length(FIRST_TICKING), chain_length(FIRST_DATED));
+}
+
+/* ---- Cases ---- */
+
+static const struct bench {
+    const char *name;
+    uint32_t (*call)(const struct side *);
+    const struct filling *filling;
+    void (*prepare)(void);
+} benches[] = {
+    {"lay_out", do_lay_out, &mixed, NULL}, {"create", do_create, &mixed, NULL}, {"ident", do_ident, &mixed, NULL},
+    {"cancel", do_cancel, &mixed, NULL}, {"delete", do_delete, &mixed, NULL}, {"fire_after", do_fire_after, &mixed, NULL},
+    {"fire_after behind all (full)", do_fire_after, &full, NULL}, {"fire_when", do_fire_when, &mixed, NULL},
+    {"reset", do_reset, &mixed, NULL}, {"ticks_left", do_ticks_left, &mixed, NULL},
+    {"ticks_left of the last (full)", do_last_ticks_left, &full, NULL}, {"tick", do_tick, &mixed, NULL},
+    {"tick, a timer fires", do_tick, &mixed, next_tick_fires},
+    {"tick, a dated timer fires", do_tick, &mixed, next_tick_is_a_date}, {"tick, all fire (due)", do_tick, &due, NULL},
+    {"set_clock, half the dated fire", do_set_clock, &mixed, NULL}, {"get_clock", do_get_clock, &mixed, NULL}};
 
 /* ---- Timing ---- */
 
 /* The words that a call changes, with what they were: the loop puts them back, so that every call does the same. */
 static struct { uint32_t word, value; } undo[WORDS];
 static uint32_t undos;
-
-static void nothing(void) { }
 
 static double now(void)
 {
@@ -159,53 +295,43 @@ static double time_side(const struct bench *bench, const struct side *side, uint
     return (now() - start) / repeats;
 }
 
-/* The same loop around a call of nothing. */
-static double time_loop(uint32_t repeats)
-{
-    void (*volatile call)(void) = nothing;
-    double start = now();
-    for (uint32_t i = 0; i < repeats; i++) {
-        call();
-        for (uint32_t k = 0; k < undos; k++)
-            table[undo[k].word] = undo[k].value;
-    }
-    return (now() - start) / repeats;
-}
+/* All that a call can change. */
+struct state {
+    uint32_t status, answer, table[WORDS], list[LIST];
+    struct hc_wall_time clock;
+};
 
-static void restore(const struct bench *bench)
+/* Makes the call on the table as the case has it before. */
+static void call_once(const struct bench *bench, const struct side *side, struct state *after)
 {
     memcpy(table, start_table, sizeof table);
     if (bench->prepare)
         bench->prepare();
+    memset(list, 0x55, sizeof list);
+    answer = 0, memset(&now_answer, 0, sizeof now_answer);
+    after->status = bench->call(side);
+    after->answer = answer, after->clock = now_answer;
+    memcpy(after->table, table, sizeof table), memcpy(after->list, list, sizeof list);
 }
 
-/* Makes the call on each side once, compares all that comes back, and notes the words that it changes. */
+/* Makes the call on each side once, compares all that comes back, and notes the words that it changes. A lay out does the
+ * same whatever was there, so nothing of it is put back. */
 static void compare_sides(const struct bench *bench)
 {
-    static uint32_t prepared[WORDS], after[WORDS], list_after[LIST];
-    struct hc_wall_time clock_after;
-    restore(bench);
-    memcpy(prepared, table, sizeof table);
-    memset(list, 0x55, sizeof list);
-    answer = 0, memset(&now_answer, 0, sizeof now_answer);
-    uint32_t status = bench->call(&plain), answer_after = answer;
-    memcpy(after, table, sizeof table), memcpy(list_after, list, sizeof list), clock_after = now_answer;
-    memcpy(table, prepared, sizeof table);
-    memset(list, 0x55, sizeof list);
-    answer = 0, memset(&now_answer, 0, sizeof now_answer);
-    if (status != 0 || bench->call(&library) != status || answer != answer_after || memcmp(table, after, sizeof table) ||
-        memcmp(list, list_after, sizeof list) || memcmp(&now_answer, &clock_after, sizeof clock_after)) {
-        printf("FAILED bench: %s, %u slots: the two sides differ, or refuse\n", bench->name, slots);
+    static struct state before, ours, theirs;
+    call_once(bench, &nothing, &before);
+    call_once(bench, &plain, &theirs);
+    call_once(bench, &library, &ours);
+    if (theirs.status != HC_SUCCESSFUL || memcmp(&ours, &theirs, sizeof ours) != 0) {
+        printf("FAILED bench: %s, %" PRIu32 " slots: the two sides differ, or refuse\n", bench->name, slots);
         exit(1);
     }
     undos = 0;
-    for (uint32_t i = 0; i < words; i++)
-        if (after[i] != prepared[i])
-            undo[undos].word = i, undo[undos++].value = prepared[i];
-    if (bench->call == do_lay_out)
-        undos = 0;
-    else
-        memcpy(table, prepared, sizeof table);
+    for (uint32_t i = 0; i < words && bench->call != do_lay_out; i++)
+        if (theirs.table[i] != before.table[i])
+            undo[undos].word = i, undo[undos++].value = before.table[i];
+    if (bench->call != do_lay_out)
+        memcpy(table, before.table, sizeof table);
 }
 
 static double least(double a, double b)
@@ -221,19 +347,19 @@ static void measure(const struct bench *bench, uint32_t rounds)
     for (uint32_t i = 0; i < rounds; i++) {
         ours = least(ours, time_side(bench, &library, repeats));
         theirs = least(theirs, time_side(bench, &plain, repeats));
-        loop = least(loop, time_loop(repeats));
+        loop = least(loop, time_side(bench, &nothing, repeats));
     }
-    printf("%s %u %.2f %.2f\n", bench->name, slots, ours - loop, theirs - loop);
+    printf("%s\t%" PRIu32 "\t%.2f\t%.2f\n", bench->name, slots, ours - loop, theirs - loop);
 }
 
 int main(int count, char **arguments)
 {
     static const uint32_t sizes[] = {8, 64, 255};
-    uint32_t rounds = count > 1 ? (uint32_t)strtoul(arguments[1], NULL, 0) : 2000;
+    uint32_t rounds = count > 1 ? (uint32_t)strtoul(arguments[1], NULL, 10) : 2000;
     for (size_t i = 0; i < sizeof benches / sizeof *benches; i++)
         for (size_t k = 0; k < sizeof sizes / sizeof *sizes; k++) {
-            random_state = 12345;
-            build(sizes[k]);
+            build(sizes[k], benches[i].filling);
+            describe(benches[i].filling);
             measure(&benches[i], rounds);
         }
     return 0;
