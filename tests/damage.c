@@ -7,7 +7,8 @@
 #include <stdio.h>
 #include <string.h>
 
-static struct oracle oracle;
+static struct oracle original;     /* the state before any damage */
+static struct oracle served;       /* what a table that is still sound after it holds */
 static struct outcome expected;
 static uint64_t calls, refused, harmless, broken_alone[PARTS];
 
@@ -115,7 +116,7 @@ static void choose_call(struct call *c)
     if (one_in(20))
         random_lay_out(MAX_SLOTS, slice, c);
     else
-        random_call(&oracle, c);
+        random_call(&original, c);
     if (c->kind != LAY_OUT || c->words > slice)
         c->words = slice;
 }
@@ -130,22 +131,20 @@ static void expect(const struct call *c, uint32_t broken)
         return;
     }
     if (!broken)
-        oracle_decode(table, &oracle);
-    oracle_call(&oracle, c, &expected);
+        oracle_decode(table, &served);
+    oracle_call(&served, c, &expected);     /* a lay out does not look at the state before it */
     harmless += !broken;
 }
 
 static void try_one(size_t tail)
 {
     struct call c;
-    struct oracle kept = oracle;
     damage(tail);
     choose_call(&c);
     place.call = &c, place.memory = &table_memory, place.words = table, place.number++, calls++;
     place.list = slice_of(&list_memory, c.fired_words, at_start);
     expect(&c, oracle_broken(table, slice));
-    try_call(&expected, &oracle);
-    oracle = kept;
+    try_call(&expected, &served);
 }
 
 static unsigned parts_not_met(void)
@@ -167,11 +166,11 @@ int main(int count, char **arguments)
     lend();
     while (calls < wanted) {
         random_span();
-        random_state_of(&oracle);
-        oracle_encode(&oracle, base);
-        base_words = table_words(oracle.slots);
+        random_state_of(&original);
+        oracle_encode(&original, base);
+        base_words = table_words(original.slots);
         size_t tail = one_in(2) ? below(MOST_PAST_TABLE) : 0;
-        if (oracle.slots == MAX_SLOTS && one_in(2))
+        if (original.slots == MAX_SLOTS && one_in(2))
             tail = SLOT_WORDS + below(4);
         place.table++, place.number = 0;
         for (int i = 0; i < 40; i++)
