@@ -64,6 +64,7 @@ bool one_in(uint32_t n)
 struct lent table_memory, other_table_memory, list_memory;
 
 enum { TABLE_PAGES = 3, LIST_PAGES = 1, CLOSED_PAGES = 3 };
+
 static void lend_pages(struct lent *memory, size_t pages)
 {
     size_t page = (size_t)sysconf(_SC_PAGESIZE), bytes = pages * page, closed = CLOSED_PAGES * page;
@@ -185,7 +186,7 @@ void fail(const char *format, ...)
 /* ---- Signals ---- */
 
 static volatile sig_atomic_t in_library;        /* only then is a signal the library's */
-static volatile sig_atomic_t alarms_in_call;
+static volatile sig_atomic_t alarms_in_call, stopped_by;
 static sigjmp_buf before_call;
 
 enum { ALARM_SECONDS = 1, ALARMS_WITHOUT_END = 2, HANDLER_STACK = 1 << 16 };
@@ -202,8 +203,9 @@ static void stopped(int signal)
 {
     if (signal == SIGVTALRM && (!in_library || ++alarms_in_call < ALARMS_WITHOUT_END))
         return;
+    stopped_by = signal;
     if (in_library)
-        siglongjmp(before_call, signal);
+        siglongjmp(before_call, 1);
     write_out("FAILED ");
     write_out(place.program);
     write_out(": the test itself was stopped by a signal, outside the library\n");
@@ -288,10 +290,9 @@ static uint32_t call_library(const struct call *c, uint32_t *table, uint32_t *li
 
 static uint32_t call_watched(const struct call *c, uint32_t *table, uint32_t *list)
 {
-    int signal = sigsetjmp(before_call, 0);
-    if (signal != 0) {
+    if (sigsetjmp(before_call, 0) != 0) {
         in_library = 0;
-        report_stop(signal);
+        report_stop(stopped_by);
     }
     alarms_in_call = 0;
     in_library = 1;
@@ -367,7 +368,7 @@ static void compare_table(const char *which, const struct lent *memory, const ui
 
 void compare_other(const struct lent *memory, const uint32_t *words)
 {
-    compare_table("another table's ", memory, words);
+    compare_table("in another table, ", memory, words);
 }
 
 static void compare_list(void)

@@ -23,7 +23,8 @@ struct sequence {
     struct oracle oracle;
 };
 
-/* Where two tables are used in turn, the second is the other's; nothing may be carried from one to the other. */
+/* The table, and another one in memory of its own where two are used in turn: the library must carry nothing from one to
+ * the other. */
 static struct sequence pair[2];
 
 enum { MOST_LOCKED = 200 };
