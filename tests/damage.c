@@ -37,7 +37,7 @@ static uint32_t some_value(uint32_t word)
     case 5:
         return one_in(2) ? base[below(HEADER_ZEROS)] + below(2) : random_word();
     default:
-        return limits[below(sizeof limits / sizeof *limits)];
+        return ONE_OF(limits);
     }
 }
 

@@ -26,7 +26,7 @@ uint32_t random_slots(void)
 uint32_t random_ticks_per_second(void)
 {
     static const uint32_t usual[] = {1, 1, 2, 3, 10, 60, 100, 999, 1000};
-    return one_in(4) ? 1 + below(MAX_TICKS_PER_SECOND) : usual[below(sizeof usual / sizeof *usual)];
+    return one_in(4) ? 1 + below(MAX_TICKS_PER_SECOND) : ONE_OF(usual);
 }
 
 /* How far ahead most starts are due, in ticks or seconds: short spans give many equals, long ones many waiting. */
@@ -35,7 +35,7 @@ static uint32_t span = 5;
 void random_span(void)
 {
     static const uint32_t spans[] = {3, 5, 5, 40, 1000};
-    span = spans[below(sizeof spans / sizeof *spans)];
+    span = ONE_OF(spans);
 }
 
 /* A number near another: the same, one more or less, or a few more. */
@@ -47,7 +47,7 @@ static uint32_t near(uint32_t number)
 static uint32_t random_number(void)
 {
     static const uint32_t ends[] = {0, 1, 2, 255, 256, 1000, 0x7fffffffu, 0x80000000u, 0xfffffffeu, 0xffffffffu};
-    return one_in(3) ? random_word() : ends[below(sizeof ends / sizeof *ends)];
+    return one_in(3) ? random_word() : ONE_OF(ends);
 }
 
 static uint32_t random_id(const struct oracle *o)
@@ -162,7 +162,7 @@ static void spoil_date(struct hc_wall_time *t)
         t->day = one_in(2) ? 0 : 32;
         break;
     case 5:
-        t->month = months[below(sizeof months / sizeof *months)];
+        t->month = ONE_OF(months);
         t->day = 28 + below(5);
         break;
     case 6:
@@ -205,7 +205,7 @@ static enum call_kind random_kind(void)
         FIRE_AFTER, FIRE_AFTER, FIRE_AFTER, FIRE_AFTER, FIRE_AFTER, FIRE_AFTER, FIRE_WHEN, FIRE_WHEN, FIRE_WHEN, FIRE_WHEN,
         FIRE_WHEN, FIRE_WHEN, RESET, RESET, RESET, TICKS_LEFT, TICKS_LEFT, TICKS_LEFT, TICK, TICK, TICK, TICK, TICK, TICK,
         TICK, TICK, TICK, TICK, SET_CLOCK, SET_CLOCK, SET_CLOCK, GET_CLOCK, GET_CLOCK};
-    return weights[below(sizeof weights / sizeof *weights)];
+    return ONE_OF(weights);
 }
 
 void random_call(const struct oracle *o, struct call *c)

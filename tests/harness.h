@@ -13,6 +13,7 @@ void random_seed(uint64_t seed);
 uint32_t random_word(void);
 uint32_t below(uint32_t limit);
 bool one_in(uint32_t n);
+#define ONE_OF(array) ((array)[below(sizeof (array) / sizeof *(array))])
 
 /* ---- Memory between pages that stop the program when they are read or written ---- */
 struct lent {

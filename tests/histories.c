@@ -266,7 +266,7 @@ static void random_history_call(struct call *c, size_t words)
         CREATE, CREATE, CREATE, CANCEL, CANCEL, DELETE, FIRE_AFTER, FIRE_AFTER, FIRE_AFTER, FIRE_AFTER, FIRE_AFTER,
         FIRE_WHEN, FIRE_WHEN, FIRE_WHEN, RESET, RESET, TICKS_LEFT, TICK, TICK, TICK, TICK, TICK, TICK, GET_CLOCK, IDENT};
     memset(c, 0, sizeof *c);
-    c->kind = weights[below(sizeof weights / sizeof *weights)];
+    c->kind = ONE_OF(weights);
     if (one_in(one_in(2) ? 20 : 60))
         c->kind = SET_CLOCK;
     if (one_in(1000))
@@ -307,10 +307,12 @@ int main(int count, char **arguments)
     static uint32_t table[MAX_TABLE];
     begin("histories", seed);
     while (calls < wanted) {
-        static const uint32_t sizes[] = {1, 2, 3, 5, 12, 40, 255}, seconds[] = {1, 1, 2, 3, 10}, spans[] = {2, 4, 12, 60};
-        struct call c = {.kind = LAY_OUT, .slots = sizes[below(7)], .ticks_per_second = seconds[below(5)]};
+        static const uint32_t sizes[] = {1, 2, 3, 5, 12, 40, 255}, rates[] = {1, 1, 2, 3, 10}, spans[] = {2, 4, 12, 60};
+        struct call c = {.kind = LAY_OUT};
+        c.slots = ONE_OF(sizes);
+        c.ticks_per_second = ONE_OF(rates);
         c.words = table_words(c.slots);
-        span = spans[below(4)];
+        span = ONE_OF(spans);
         place.table++, place.number = 0;
         make(&c, table);
         for (uint32_t i = 0; i < 1000; i++) {
