@@ -212,12 +212,13 @@ static void stopped(int signal)
     _exit(OWN_FAILURE);
 }
 
+/* Which of the two signals a wild address gives depends on what lies there, so the line does not tell. */
 static void report_stop(int signal)
 {
     if (signal == SIGVTALRM)
         fail("expected an end, came none");
     if (signal == SIGSEGV || signal == SIGBUS)
-        fail("expected no word read or written outside the slices, came such a word or too deep a stack (signal %d)", signal);
+        fail("expected no word read or written outside the slices, came such a word or too deep a stack");
     fail("expected the call to return, came signal %d", signal);
 }
 
