@@ -40,7 +40,10 @@ static const struct side plain = {plain_lay_out, plain_create, plain_ident, plai
 
 /* Calls that do nothing. Their time is what the loop and the way into a call take, and is taken off from both others. */
 static uint32_t no_change(uint32_t *t, size_t n, uint32_t id) { return (void)t, (void)n, (void)id, 0; }
-static uint32_t no_answer(const uint32_t *t, size_t n, uint32_t x, uint32_t *a) { return (void)t, (void)n, (void)x, (void)a, 0; }
+static uint32_t no_answer(const uint32_t *t, size_t n, uint32_t x, uint32_t *a)
+{
+    return (void)t, (void)n, (void)x, (void)a, 0;
+}
 static uint32_t no_lay_out(uint32_t *t, size_t n, uint32_t s, uint32_t r) { return (void)t, (void)n, (void)s, (void)r, 0; }
 static uint32_t no_create(uint32_t *t, size_t n, uint32_t name, uint32_t *a) { return no_answer(t, n, name, a); }
 static uint32_t no_fire_after(uint32_t *t, size_t n, uint32_t id, uint32_t ticks, uint32_t r, uint32_t d)

@@ -1,5 +1,5 @@
-/* Damaged tables: one or two words changed, many words at once, or the slice cut short. A table that is no longer sound must be refused with
- * 100 and stay; one that still is must be served as the oracle serves what it reads from it.
+/* Damaged tables: one or two words changed, many words at once, or the slice cut short. A table that is no longer sound must
+ * be refused with 100 and stay; one that still is must be served as the oracle serves what it reads from it.
  * Arguments: seed, number of calls. */
 #include "generate.h"
 

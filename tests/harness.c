@@ -36,7 +36,7 @@ uint64_t number_argument(int count, char **arguments, int which, uint64_t otherw
 
 static uint64_t random_state;
 
-void random_seed(uint64_t seed)
+static void random_seed(uint64_t seed)
 {
     random_state = seed * 0x9e3779b97f4a7c15u + 0x6a09e667f3bcc909u;
 }
@@ -65,6 +65,13 @@ struct lent table_memory, other_table_memory, list_memory;
 
 enum { TABLE_PAGES = 3, LIST_PAGES = 1, CLOSED_PAGES = 3 };
 
+static void fill_randomly(struct lent *memory)
+{
+    for (size_t i = 0; i < memory->total; i++)
+        memory->expected[i] = random_word();
+    memcpy(memory->base, memory->expected, memory->total * sizeof(uint32_t));
+}
+
 static void lend_pages(struct lent *memory, size_t pages)
 {
     size_t page = (size_t)sysconf(_SC_PAGESIZE), bytes = pages * page, closed = CLOSED_PAGES * page;
@@ -86,13 +93,6 @@ void lend(void)
     lend_pages(&list_memory, LIST_PAGES);
 }
 
-void fill_randomly(struct lent *memory)
-{
-    for (size_t i = 0; i < memory->total; i++)
-        memory->expected[i] = random_word();
-    memcpy(memory->base, memory->expected, memory->total * sizeof(uint32_t));
-}
-
 uint32_t *slice_of(const struct lent *memory, size_t words, bool at_start)
 {
     return at_start ? memory->base : memory->base + memory->total - words;
@@ -109,8 +109,9 @@ struct place place;
 
 void describe_time(const struct hc_wall_time *t, char text[TIME_TEXT])
 {
-    snprintf(text, TIME_TEXT, "%" PRIu32 "-%02" PRIu32 "-%02" PRIu32 " %02" PRIu32 ":%02" PRIu32 ":%02" PRIu32 " ticks %" PRIu32,
-             t->year, t->month, t->day, t->hour, t->minute, t->second, t->ticks);
+    snprintf(text, TIME_TEXT,
+             "%" PRIu32 "-%02" PRIu32 "-%02" PRIu32 " %02" PRIu32 ":%02" PRIu32 ":%02" PRIu32 " ticks %" PRIu32, t->year,
+             t->month, t->day, t->hour, t->minute, t->second, t->ticks);
 }
 
 /* The arguments after the table's. */
@@ -151,7 +152,9 @@ static void describe_arguments(const struct call *c, char *text, size_t size)
     }
 }
 
-void describe_call(const struct call *c, char text[CALL_TEXT])
+enum { CALL_TEXT = 400 };
+
+static void describe_call(const struct call *c, char text[CALL_TEXT])
 {
     char arguments[CALL_TEXT / 2];
     describe_arguments(c, arguments, sizeof arguments);
@@ -332,9 +335,11 @@ void perform(const struct call *c, uint32_t *table, uint32_t *list, struct came 
 
 static void name_word(ptrdiff_t word, char *text, size_t size)
 {
-    static const char *const header[HEADER_WORDS] = {"slot count", "ticks in a second", "clock set", "seconds", "ticks into the second",
-                                         "first of the interval chain", "first of the dated chain", "zero", "zero", "zero"};
-    static const char *const fields[SLOT_WORDS] = {"kind", "name", "interval", "wait", "routine", "user data", "next", "previous"};
+    static const char *const header[HEADER_WORDS] = {
+        "slot count", "ticks in a second", "clock set", "seconds", "ticks into the second", "first of the interval chain",
+        "first of the dated chain", "zero", "zero", "zero"};
+    static const char *const fields[SLOT_WORDS] = {"kind",    "name",      "interval", "wait",
+                                                   "routine", "user data", "next",     "previous"};
     if (word < 0)
         snprintf(text, size, "%td words before the table", -word);
     else if (word < HEADER_WORDS)
@@ -376,7 +381,8 @@ static void compare_list(void)
 {
     const uint32_t *word = difference(&list_memory);
     if (word != NULL)
-        fail("list word %td: expected %" PRIu32 ", came %" PRIu32, word - place.list, *expected_of(&list_memory, word), *word);
+        fail("list word %td: expected %" PRIu32 ", came %" PRIu32, word - place.list, *expected_of(&list_memory, word),
+             *word);
 }
 
 static void compare(const struct came *came, const struct outcome *expected)

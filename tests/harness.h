@@ -9,7 +9,6 @@
 uint64_t number_argument(int count, char **arguments, int which, uint64_t otherwise);
 
 /* ---- Random numbers: the same for the same seed ---- */
-void random_seed(uint64_t seed);
 uint32_t random_word(void);
 uint32_t below(uint32_t limit);
 bool one_in(uint32_t n);
@@ -23,7 +22,6 @@ struct lent {
 };
 extern struct lent table_memory, other_table_memory, list_memory;
 void lend(void);
-void fill_randomly(struct lent *memory);
 
 /* So many words at the start of the memory or at its end, right beside the closed page there. */
 uint32_t *slice_of(const struct lent *memory, size_t words, bool at_start);
@@ -60,9 +58,8 @@ struct place {
 extern struct place place;
 void begin(const char *program, uint64_t seed);
 void fail(const char *format, ...) __attribute__((format(printf, 1, 2), noreturn));
-enum { TIME_TEXT = 120, CALL_TEXT = 400 };      /* characters that suffice for any */
+enum { TIME_TEXT = 120 };       /* characters that suffice for any */
 void describe_time(const struct hc_wall_time *time, char text[TIME_TEXT]);
-void describe_call(const struct call *call, char text[CALL_TEXT]);
 
 /* ---- What was met ---- */
 void report_met(void);
