@@ -1,9 +1,15 @@
 -- `timer::set_clock` meets its contract: the clock is set, and the dated timers then due fire. Assumes nothing.
 use borrow.Author.Needs.{needs}
-use mathlib.Core.Path.{refl}
+use mathlib.Core.Bool.{true, false, not}
+use mathlib.Core.List.{List}
+use mathlib.Core.Path.{_≡_, refl}
+use Prim.Native.Nat.{ℕ, _*_, _≤_}
 use native.Mathlib.Omega.{arith}
+use lib.ListN.{length}
 use Rattle.model.specs.declared.Status.the-variants.{InvalidClock, NotSound, ListTooShort}
-use Rattle.model.specs.Calls.{setClock}
+use Rattle.model.specs.Calls.{Call, setClock}
+use Rattle.model.specs.Words.{word}
+use Rattle.model.specs.Sound.{sound}
 use Rattle.model.proofs.SoundHolds.{sound-header, sound-holds}
 use Rattle.firing.proofs.Ticks.{moved-room, moved-is}
 use Rattle.timer.proofs.Replies.{refuses, unsound, sound-rule, sound-now}
@@ -11,6 +17,35 @@ use Rattle.timer.proofs.Lists.{too-short, long-enough, not-short}
 use Rattle.timer.proofs.Clocks.{not-valid, is-valid, second-is, set-clock-done}
 use Rattle.timer.proofs.set_clock.Statement.{statement}
 use Rattle.timer.proofs.set_clock.Tie as tie
+
+-- ---- the table is sound
+
+module _ (b : tie.Else1) where
+  abbrev t : List ℕ
+  t = b .before .before .before .before .before .args .table .now
+
+  abbrev list : List ℕ
+  list = b .before .before .before .before .before .args .fired .now
+
+  abbrev call : Call
+  call = setClock (b .before .before .before .before .before .args .time) list
+
+  ok : sound t ≡ true
+  ok = sound-now t _ (b .before .is-sound .ensures) (b .if1 .left)
+
+  rule : not (sound t) ≡ false
+  rule = sound-rule t _ (b .before .is-sound .ensures) (b .if1 .left)
+
+-- ---- the list is long enough
+
+module _ (d : tie.Else2) where
+  abbrev sure : tie.Else1
+  sure = d .before .before .before
+
+  long : 3 * word (t sure) 0 ≤ length (list sure)
+  long = long-enough (t sure) (list sure) _ (d .before .list-words .ensures) (d .if2 .left)
+
+-- ---- the needs
 
 is-sound-requires : tie.Need-is-sound-requires
 is-sound-requires c κs = search needs
@@ -25,22 +60,10 @@ returns c =
     refuses t (setClock (a .time) (a .fired .now)) NotSound 0 tt (unsound t _ (c .before .is-sound .ensures) (c .if1 .taken)) refl
 
 slice-read-list-words : tie.Need-slice-read-list-words
-slice-read-list-words c =
-    let b = c .before in
-    let a = b .before .before .before .before .before .args in
-    let t = a .table .now in
-    let ok = sound-now t _ (b .before .is-sound .ensures) (b .if1 .left) in
-    let h = sound-header t ok in
-    omega arith
+slice-read-list-words c = let h = sound-header (t (c .before)) (ok (c .before)) in omega arith
 
 list-words-requires : tie.Need-list-words-requires
-list-words-requires c κs =
-    let b = c .before in
-    let a = b .before .before .before .before .before .args in
-    let t = a .table .now in
-    let ok = sound-now t _ (b .before .is-sound .ensures) (b .if1 .left) in
-    let h = sound-header t ok in
-    omega arith
+list-words-requires c κs = let h = sound-header (t (c .before)) (ok (c .before)) in omega arith
 
 same-length-2 : tie.Need-same-length-2
 same-length-2 c = search needs
@@ -48,11 +71,7 @@ same-length-2 c = search needs
 returns-2 : tie.Need-returns-2
 returns-2 c =
     let b = c .before .before .before in
-    let a = b .before .before .before .before .before .args in
-    let t = a .table .now in
-    let rule = sound-rule t _ (b .before .is-sound .ensures) (b .if1 .left) in
-    refuses t (setClock (a .time) (a .fired .now)) ListTooShort 1 (rule, tt)
-    (too-short t (a .fired .now) _ (c .before .list-words .ensures) (c .if2 .taken)) refl
+    refuses (t b) (call b) ListTooShort 1 (rule b, tt) (too-short (t b) (list b) _ (c .before .list-words .ensures) (c .if2 .taken)) refl
 
 to-seconds-requires : tie.Need-to-seconds-requires
 to-seconds-requires c κs = search needs
@@ -68,34 +87,19 @@ same-length-3 c = search needs
 
 returns-3 : tie.Need-returns-3
 returns-3 c =
-    let b = c .before .before .before .before .before .before in
-    let a = b .before .before .before .before .before .args in
-    let t = a .table .now in
-    let rule = sound-rule t _ (b .before .is-sound .ensures) (b .if1 .left) in
-    let room = c .before .before .before .if2 .left in
-    let long = long-enough t (a .fired .now) _ (c .before .before .before .before .list-words .ensures) room in
-    refuses t (setClock (a .time) (a .fired .now)) InvalidClock 2 (rule, (not-short t (a .fired .now) long, tt))
-    (not-valid (a .time) (c .before .before .to-seconds .ensures) (c .enum-told .given .1)) refl
+    let d = c .before .before .before in
+    let b = sure d in
+    refuses (t b) (call b) InvalidClock 2 (rule b, (not-short (t b) (list b) (long d), tt))
+    (not-valid _ (c .before .before .to-seconds .ensures) (c .enum-told .given .1)) refl
 
 set-clock-requires : tie.Need-set-clock-requires
-set-clock-requires c κs =
-    let b = c .before .before .before .before .before .before .before .before in
-    let a = b .before .before .before .before .before .args in
-    let t = a .table .now in
-    let ok = sound-now t _ (b .before .is-sound .ensures) (b .if1 .left) in
-    sound-holds t ok
+set-clock-requires c κs = sound-holds _ (ok (sure (c .before .before .before .before .before)))
 
 fire-requires : tie.Need-fire-requires
 fire-requires c κs =
     let moved = c .before .before .before .before in
-    let room = moved .before .before .before .before .before .before in
-    let b = room .before .before .before in
-    let a = b .before .before .before .before .before .args in
-    let t = a .table .now in
-    let list = a .fired .now in
-    let ok = sound-now t _ (b .before .is-sound .ensures) (b .if1 .left) in
-    let long = long-enough t list _ (room .before .list-words .ensures) (room .if2 .left) in
-    moved-room t list ok long _ (moved .set-clock .ensures) _ _
+    let d = moved .before .before .before .before .before .before in
+    moved-room _ _ (ok (sure d)) (long d) _ (moved .set-clock .ensures) _ _
 
 same-length-4 : tie.Need-same-length-4
 same-length-4 c = search needs
@@ -108,19 +112,13 @@ returns-4 c =
     let fired = c .before .before .before .before in
     let moved = fired .before .before .before .before .before in
     let told = moved .before .before .before in
-    let room = told .before .before .before in
-    let b = room .before .before .before in
-    let a = b .before .before .before .before .before .args in
-    let t = a .table .now in
-    let list = a .fired .now in
-    let ok = sound-now t _ (b .before .is-sound .ensures) (b .if1 .left) in
-    let long = long-enough t list _ (room .before .list-words .ensures) (room .if2 .left) in
+    let d = told .before .before .before in
+    let b = sure d in
     let to = told .before .before .to-seconds .ensures in
     let got = told .second .given .1 in
-    let rule = sound-rule t _ (b .before .is-sound .ensures) (b .if1 .left) in
-    let l = moved-is t list ok long _ (moved .set-clock .ensures) (fired .fire .ensures) in
-    set-clock-done t (a .time) list _ _ _ _
-    (rule, (not-short t list long, (is-valid (a .time) _ to got, tt))) (second-is (a .time) _ to got) l
+    set-clock-done (t b) _ (list b) _ _ _ _
+    (rule b, (not-short (t b) (list b) (long d), (is-valid _ _ to got, tt))) (second-is _ _ to got)
+    (moved-is _ _ (ok b) (long d) _ (moved .set-clock .ensures) (fired .fire .ensures))
 
 pub set-clock-spec : {M : Type 1} → statement M
 set-clock-spec =
