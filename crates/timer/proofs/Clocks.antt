@@ -1,5 +1,5 @@
 -- The clock of a sound table, as the calls that ask for it find it. Assumes nothing.
-use mathlib.Core.Path.{_≡_, ap, ap₂, subst}
+use mathlib.Core.Path.{_≡_, ap, ap₂, _∙_, subst}
 use mathlib.Core.Logic.{_≢_}
 use Prim.Native.Nat.{ℕ, _≤_, _<_}
 use native.Mathlib.Omega.{arith}
@@ -54,9 +54,9 @@ module _ (t : List ℕ) where
       let a = second-answer w s e n in
       ap₂ (λ (b c : Bool). not (b && c)) (a .is-valid) (lt-ltb (word t 3) (secondsOf w) (omega (arith, a .is)))
 
-  pub dated-is : (w : WallTime) (s i k r u : ℕ) {d : Instant} → d ≡ instantOf w → d ≡ Second s → i ≡ k
-      → over (started ByDate (read t) i s 0 r u) t ≡ over (started ByDate (read t) k (secondsOf w) 0 r u) t
-  dated-is w s i k r u e n is = ap₂ (λ (a b : ℕ). over (started ByDate (read t) a b 0 r u) t) is (second-answer w s e n .is)
+  pub dated-is : (w : WallTime) (r u : ℕ) {s i k : ℕ} {d : Instant} {v : List ℕ} → d ≡ instantOf w → d ≡ Second s → i ≡ k
+      → v ≡ over (started ByDate (read t) i s 0 r u) t → v ≡ over (started ByDate (read t) k (secondsOf w) 0 r u) t
+  dated-is w r u {s} e n is h = h ∙ ap₂ (λ (a b : ℕ). over (started ByDate (read t) a b 0 r u) t) is (second-answer w s e n .is)
 
 -- ---- set clock
 

@@ -37,6 +37,18 @@ module _ (t : List ℕ) (c : Call) where
       → record { status = 0; answer = answer; table = table; list = list } ≡ outcome t c
   done answer table list none a u l = (λ j. record { status = 0; answer = a j; table = u j; list = l j }) ∙ accepts none
 
+-- a test, and what it tests for
+pub not-same : {r b x : Bool} → r ≡ b → not r ≡ x → not b ≡ x
+not-same e n = ap not (sym e) ∙ n
+
+-- the table was tested, and is sound
+pub record Tested (t : List ℕ) : Type 0 where
+  pub ok : sound t ≡ true
+  pub rule : not (sound t) ≡ false
+
+pub tested : {t : List ℕ} {r : Bool} → r ≡ sound t → not r ≡ false → Tested t
+tested {t} {r} e n = record { ok = sym e ∙ not-false r n; rule = not-same e n }
+
 -- the tests of soundness, as the first rule has them
 module _ (t : List ℕ) (r : Bool) (e : r ≡ sound t) where
   pub unsound : not r ≡ true → not (sound t) ≡ true

@@ -2,7 +2,7 @@
 use mathlib.Core.Path.{_≡_, refl, sym, ap, _∙_}
 use Prim.Native.Nat.{ℕ, _<_}
 use native.Mathlib.Omega.{arith}
-use mathlib.Core.Bool.{Bool, true, false, cond, not}
+use mathlib.Core.Bool.{Bool, cond}
 use mathlib.Core.List.{List, [], _∷_}
 use lib.Dec.{eqb}
 use borrow.Author.Tests.{eq-eqb, ne-eqb}
@@ -12,50 +12,38 @@ use Rattle.model.specs.Calls.{reset}
 use Rattle.model.specs.State.{Slot, Link, slotAt, indexOf, waitAt}
 use Rattle.model.specs.Directives.{started, effect}
 use Rattle.model.specs.Words.{over, field, read, slotFrom}
-use Rattle.model.specs.Sound.{sound}
 use Rattle.model.proofs.ListLaws.{cases}
 use Rattle.model.proofs.WellFormed.{timesIn}
 use Rattle.model.proofs.ReadBack.{slot-read}
-use Rattle.model.proofs.SoundHolds.{sound-holds}
-use Rattle.slots.specs.Search.{namedSlot}
-use Rattle.slots.proofs.Laws.{IsNamed, named-some}
+use Rattle.timer.proofs.Tables.{Named}
 
 wait-none : (i : ℕ) (l : List Link) → timesIn l i ≡ 0 → waitAt i l ≡ 0
 wait-none i [] e = refl
 wait-none i (w ∷ ws) e =
     cases (eqb (w .slot) i) (λ f. absurd (let z = rw f at e in omega arith)) (λ f. rw f (wait-none i ws (rw f at e)))
 
-module _ (t : List ℕ) (ok : sound t ≡ true) (id i : ℕ) (e : i ≡ namedSlot t id) (some : i ≡ 0 → ⊥) where
-  at : IsNamed t id i
-  at = named-some t id i e some
-
+module _ {t : List ℕ} {id i : ℕ} (at : Named t id i) where
   slot-is : slotAt (read t .slots) (indexOf id) ≡ slotFrom t i
-  slot-is = ap (slotAt (read t .slots)) (sym (at .index)) ∙ slot-read t i (at .low) (at .high)
+  slot-is = ap (slotAt (read t .slots)) (sym (at .index)) ∙ slot-read t i (at .place .low) (at .place .high)
 
   -- ---- reset
 
-  module _ {kind : ℕ} {b : Bool} (k : kind ≡ field t 0 i) (is : b ≡ lastByTicks kind) where
-    timed : lastByTicks (slotAt (read t .slots) (indexOf id) .kind) ≡ b
-    timed = ap (λ (x : Slot). lastByTicks (x .kind)) slot-is ∙ ap lastByTicks (sym k) ∙ sym is
+  pub timed : {kind : ℕ} {b : Bool} → kind ≡ field t 0 i → b ≡ lastByTicks kind → b ≡ lastByTicks (slotAt (read t .slots) (indexOf id) .kind)
+  timed k is = is ∙ ap lastByTicks k ∙ ap (λ (x : Slot). lastByTicks (x .kind)) (sym slot-is)
 
-    pub not-by-ticks : not b ≡ true → not (lastByTicks (slotAt (read t .slots) (indexOf id) .kind)) ≡ true
-    not-by-ticks n = ap not timed ∙ n
-
-    pub by-ticks : not b ≡ false → not (lastByTicks (slotAt (read t .slots) (indexOf id) .kind)) ≡ false
-    by-ticks n = ap not timed ∙ n
-
-  pub reset-is : {n r u : ℕ} → n ≡ field t 2 i → r ≡ field t 4 i → u ≡ field t 5 i
-      → over (started ByTicks (read t) i n n r u) t ≡ over (effect (read t) (reset id) .state) t
-  reset-is {n} {r} {u} a b c =
-      (λ j. over (started ByTicks (read t) (at .index j) (a j) (a j) (b j) (c j)) t)
+  pub reset-is : {n r u : ℕ} {v : List ℕ} → v ≡ over (started ByTicks (read t) i n n r u) t → n ≡ field t 2 i → r ≡ field t 4 i → u ≡ field t 5 i
+      → v ≡ over (effect (read t) (reset id) .state) t
+  reset-is e a b c =
+      e
+      ∙ (λ j. over (started ByTicks (read t) (at .index j) (a j) (a j) (b j) (c j)) t)
       ∙ ap (λ (x : Slot). over (started ByTicks (read t) (indexOf id) (x .interval) (x .interval) (x .routine) (x .userData)) t) (sym slot-is)
 
   -- ---- ticks left
 
   meets : timesIn (read t .ticking) i ≡ cond (eqb (field t 0 i) 4) 1 0
   meets =
-      sound-holds t ok .chained .meets ByTicks i
-      ∙ ap (λ (x : Slot). cond (eqb (x .kind) 4) 1 0) (slot-read t i (at .low) (at .high))
+      at .place .holds .chained .meets ByTicks i
+      ∙ ap (λ (x : Slot). cond (eqb (x .kind) 4) 1 0) (slot-read t i (at .place .low) (at .place .high))
 
   pub no-ticks : (field t 0 i ≡ 4 → ⊥) → _≡_ {A = List ℕ} (0 ∷ []) (waitAt (indexOf id) (read t .ticking) ∷ [])
   no-ticks n =

@@ -23,6 +23,31 @@ use Rattle.links.specs.Places.{InTable}
 use Rattle.slots.specs.Search.{lowestWith, namedSlot}
 use Rattle.slots.proofs.Laws.{free-found, named-some, named-none}
 
+-- ---- the slot that an id names
+
+pub record Named (t : List ℕ) (id i : ℕ) : Type 0 where
+  pub rule : not (names (read t) id) ≡ false
+  pub index : i ≡ indexOf id
+  pub place : InTable t i
+  pub inside : 8 * i + 10 ≤ length t
+
+pub named : {t : List ℕ} {id i : ℕ} → sound t ≡ true → i ≡ namedSlot t id → (i ≡ 0 → ⊥) → Named t id i
+named {t} {id} {i} ok e some =
+    let m = named-some t id i e some in
+    record {
+      rule = ap not (m .names-one);
+      index = m .index;
+      place = record { holds = sound-holds t ok; low = m .low; high = m .high };
+      inside = omega (arith, sound-header t ok .long, m .high);
+    }
+
+pub none-named : (t : List ℕ) (id : ℕ) {i : ℕ} → i ≡ namedSlot t id → i ≡ 0 → not (names (read t) id) ≡ true
+none-named t id {i} e z = ap not (named-none t id i e z)
+
+-- what was done at the slot was done at the id's index
+pub at-index : {t : List ℕ} {id i : ℕ} (f : ℕ → State) {u : List ℕ} → Named t id i → u ≡ over (f i) t → u ≡ over (f (indexOf id)) t
+at-index {t} f at e = e ∙ ap (λ (k : ℕ). over (f k) t) (at .index)
+
 -- ---- a slot of a sound table
 
 module _ (t : List ℕ) (ok : sound t ≡ true) where

@@ -1,16 +1,44 @@
 -- `timer::cancel` meets its contract: the slot that the id names is stopped. Assumes nothing.
 use borrow.Author.Needs.{needs}
-use mathlib.Core.List.{[], _∷_}
-use mathlib.Core.Path.{refl, ap, _∙_}
+use mathlib.Core.List.{List, [], _∷_}
+use mathlib.Core.Path.{refl}
 use Prim.Native.Nat.{ℕ}
 use Rattle.model.specs.declared.Status.the-variants.{InvalidId, NotSound}
-use Rattle.model.specs.Calls.{cancel}
-use Rattle.model.specs.Words.{over}
-use Rattle.timer.proofs.Replies.{refuses, done, unsound, sound-rule, sound-now}
+use Rattle.model.specs.Calls.{Call, cancel}
 use Rattle.links.proofs.Restart.{stoppedAt}
-use Rattle.timer.proofs.Tables.{unknown, known, index-is, in-table}
+use Rattle.timer.proofs.Replies.{Tested, tested, not-same, refuses, done}
+use Rattle.timer.proofs.Tables.{Named, named, none-named, at-index}
 use Rattle.timer.proofs.cancel.Statement.{statement}
 use Rattle.timer.proofs.cancel.Tie as tie
+
+-- ---- at the entry
+
+module _ (e : tie.Start) where
+  abbrev t : List ℕ
+  t = e .args .table .now
+
+  abbrev call : Call
+  call = cancel (e .args .id)
+
+-- ---- the table is sound
+
+module _ (b : tie.Else1) where
+  abbrev entry : tie.Start
+  entry = b .before .before .before .before
+
+  sure : Tested (t entry)
+  sure = tested (b .before .is-sound .ensures) (b .if1 .left)
+
+-- ---- the id names a slot
+
+module _ (d : tie.Else2) where
+  abbrev found : tie.Else1
+  found = d .before .before .before
+
+  at : Named (t (entry found)) (entry found .args .id) (d .before .named .result)
+  at = named (sure found .ok) (d .before .named .ensures) (d .if2 .left)
+
+-- ---- the needs
 
 is-sound-requires : tie.Need-is-sound-requires
 is-sound-requires c κs = search needs
@@ -20,17 +48,11 @@ same-length c = search needs
 
 returns : tie.Need-returns
 returns c =
-    let a = c .before .before .before .before .args in
-    let t = a .table .now in
-    refuses t (cancel (a .id)) NotSound 0 tt (unsound t _ (c .before .is-sound .ensures) (c .if1 .taken)) refl
+    let e = c .before .before .before .before in
+    refuses (t e) (call e) NotSound 0 tt (not-same (c .before .is-sound .ensures) (c .if1 .taken)) refl
 
 named-requires : tie.Need-named-requires
-named-requires c κs =
-    let b = c .before in
-    let a = b .before .before .before .before .args in
-    let t = a .table .now in
-    let ok = sound-now t _ (b .before .is-sound .ensures) (b .if1 .left) in
-    ok
+named-requires c κs = sure (c .before) .ok
 
 same-length-2 : tie.Need-same-length-2
 same-length-2 c = search needs
@@ -38,22 +60,11 @@ same-length-2 c = search needs
 returns-2 : tie.Need-returns-2
 returns-2 c =
     let b = c .before .before .before in
-    let a = b .before .before .before .before .args in
-    let t = a .table .now in
-    let rule = sound-rule t _ (b .before .is-sound .ensures) (b .if1 .left) in
-    let ok = sound-now t _ (b .before .is-sound .ensures) (b .if1 .left) in
-    let at = c .before .named .ensures in
-    refuses t (cancel (a .id)) InvalidId 1 (rule, tt) (unknown t ok (a .id) _ at (c .if2 .taken)) refl
+    let e = entry b in
+    refuses (t e) (call e) InvalidId 1 (sure b .rule, tt) (none-named (t e) (e .args .id) (c .before .named .ensures) (c .if2 .taken)) refl
 
 stop-requires : tie.Need-stop-requires
-stop-requires c κs =
-    let b = c .before .before .before .before in
-    let a = b .before .before .before .before .args in
-    let t = a .table .now in
-    let ok = sound-now t _ (b .before .is-sound .ensures) (b .if1 .left) in
-    let some = c .before .if2 .left in
-    let at = c .before .before .named .ensures in
-    in-table t ok (a .id) _ at some
+stop-requires c κs = at (c .before) .place
 
 same-length-3 : tie.Need-same-length-3
 same-length-3 c = search needs
@@ -61,17 +72,10 @@ same-length-3 c = search needs
 returns-3 : tie.Need-returns-3
 returns-3 c =
     let d = c .before .before .before .before in
-    let b = d .before .before .before in
-    let a = b .before .before .before .before .args in
-    let t = a .table .now in
-    let rule = sound-rule t _ (b .before .is-sound .ensures) (b .if1 .left) in
-    let ok = sound-now t _ (b .before .is-sound .ensures) (b .if1 .left) in
-    let some = d .if2 .left in
-    let at = d .before .named .ensures in
-    let i = c .before .before .before .before .before .named .result in
-    let is = index-is t ok (a .id) i at some in
-    done t (cancel (a .id)) (0 ∷ []) _ [] (rule, (known t ok (a .id) i at some, tt)) refl
-    (c .before .before .stop .ensures ∙ ap (λ (k : ℕ). over (stoppedAt t k) t) is) refl
+    let b = found d in
+    let e = entry b in
+    done (t e) (call e) (0 ∷ []) _ [] (sure b .rule, (at d .rule, tt)) refl
+    (at-index (stoppedAt (t e)) (at d) (c .before .before .stop .ensures)) refl
 
 pub cancel-spec : {M : Type 1} → statement M
 cancel-spec =

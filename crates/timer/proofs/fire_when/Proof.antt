@@ -1,17 +1,78 @@
 -- `timer::fire_when` meets its contract: the slot that the id names starts to wait in the dated chain. Assumes nothing.
 use borrow.Author.Needs.{needs}
 use borrow.Author.Tests.{eq-eqb, ne-eqb}
-use mathlib.Core.List.{[], _∷_}
-use mathlib.Core.Path.{refl, _∙_}
+use mathlib.Core.Bool.{false, not}
+use mathlib.Core.List.{List, [], _∷_}
+use mathlib.Core.Path.{_≡_, refl}
+use Prim.Native.Nat.{ℕ, _<_}
 use native.Mathlib.Omega.{arith}
+use lib.Dec.{eqb}
 use Rattle.model.specs.declared.Status.the-variants.{InvalidId, InvalidAddress, NotDefined, InvalidClock, NotSound}
-use Rattle.model.specs.Calls.{fireWhen}
+use Rattle.model.specs.Calls.{Call, fireWhen}
+use Rattle.model.specs.Directives.{notAhead}
+use Rattle.model.specs.Words.{word, read}
 use Rattle.model.proofs.SoundHolds.{sound-header}
-use Rattle.timer.proofs.Replies.{refuses, done, unsound, sound-rule, sound-now}
-use Rattle.timer.proofs.Tables.{unknown, known, index-is, in-table}
+use Rattle.timer.proofs.Replies.{Tested, tested, not-same, refuses, done}
+use Rattle.timer.proofs.Tables.{Named, named, none-named}
 use Rattle.timer.proofs.Clocks.{clock-unset, clock-running, not-a-date, past-date, later-date, dated-is}
 use Rattle.timer.proofs.fire_when.Statement.{statement}
 use Rattle.timer.proofs.fire_when.Tie as tie
+
+-- ---- at the entry
+
+module _ (e : tie.Start) where
+  abbrev t : List ℕ
+  t = e .args .table .now
+
+  abbrev call : Call
+  call = fireWhen (e .args .id) (e .args .when) (e .args .routine) (e .args .user-data)
+
+-- ---- the table is sound
+
+module _ (b : tie.Else1) where
+  abbrev entry : tie.Start
+  entry = b .before .before .before .before
+
+  sure : Tested (t entry)
+  sure = tested (b .before .is-sound .ensures) (b .if1 .left)
+
+-- ---- the clock is set and the routine is not 0
+
+module _ (x : tie.Else3) where
+  abbrev tried : tie.Else1
+  tried = x .before .before .before
+
+  set : not (read (t (entry tried)) .clock .isSet) ≡ false
+  set = clock-running (t (entry tried)) (x .before .if2 .left)
+
+  used : eqb (entry tried .args .routine) 0 ≡ false
+  used = ne-eqb (entry tried .args .routine) 0 (x .if3 .left)
+
+-- ---- the date is ahead
+
+module _ (y : tie.Else4) where
+  abbrev told : tie.After-date
+  told = y .before .before .before
+
+  abbrev ready : tie.Else3
+  ready = told .before .before .before
+
+  abbrev began : tie.Start
+  began = entry (tried ready)
+
+  later : word (t began) 3 < told .date .given .0 .0 → notAhead (read (t began)) (began .args .when) ≡ false
+  later = later-date (t began) (began .args .when) _ (told .before .before .to-seconds .ensures) (told .date .given .1)
+
+-- ---- the id names a slot
+
+module _ (d : tie.Else5) where
+  abbrev found : tie.Else1
+  found = d .before .before .before .before .before .before .before .before .before .before .before .before
+
+  at : Named (t (entry found)) (entry found .args .id) (d .before .named .result)
+  at = named (sure found .ok) (d .before .named .ensures) (d .if5 .left)
+
+-- ---- the needs
 
 is-sound-requires : tie.Need-is-sound-requires
 is-sound-requires c κs = search needs
@@ -21,18 +82,12 @@ same-length c = search needs
 
 returns : tie.Need-returns
 returns c =
-    let a = c .before .before .before .before .args in
-    let t = a .table .now in
-    refuses t (fireWhen (a .id) (a .when) (a .routine) (a .user-data)) NotSound 0 tt (unsound t _ (c .before .is-sound .ensures) (c .if1 .taken)) refl
+    let e = c .before .before .before .before in
+    refuses (t e) (call e) NotSound 0 tt (not-same (c .before .is-sound .ensures) (c .if1 .taken)) refl
 
 slice-read-if2 : tie.Need-slice-read-if2
 slice-read-if2 c =
-    let b = c .before in
-    let a = b .before .before .before .before .args in
-    let t = a .table .now in
-    let ok = sound-now t _ (b .before .is-sound .ensures) (b .if1 .left) in
-    let h = sound-header t ok in
-    omega arith
+    let h = sound-header _ (sure (c .before) .ok) in omega arith
 
 same-length-2 : tie.Need-same-length-2
 same-length-2 c = search needs
@@ -40,10 +95,7 @@ same-length-2 c = search needs
 returns-2 : tie.Need-returns-2
 returns-2 c =
     let b = c .before .before in
-    let a = b .before .before .before .before .args in
-    let t = a .table .now in
-    let rule = sound-rule t _ (b .before .is-sound .ensures) (b .if1 .left) in
-    refuses t (fireWhen (a .id) (a .when) (a .routine) (a .user-data)) NotDefined 1 (rule, tt) (clock-unset t (c .if2 .taken)) refl
+    refuses (t (entry b)) (call (entry b)) NotDefined 1 (sure b .rule, tt) (clock-unset (t (entry b)) (c .if2 .taken)) refl
 
 same-length-3 : tie.Need-same-length-3
 same-length-3 c = search needs
@@ -51,12 +103,8 @@ same-length-3 c = search needs
 returns-3 : tie.Need-returns-3
 returns-3 c =
     let b = c .before .before .before in
-    let a = b .before .before .before .before .args in
-    let t = a .table .now in
-    let rule = sound-rule t _ (b .before .is-sound .ensures) (b .if1 .left) in
-    let set = c .before .if2 .left in
-    refuses t (fireWhen (a .id) (a .when) (a .routine) (a .user-data)) InvalidAddress 2 (rule, (clock-running t set, tt))
-    (eq-eqb (a .routine) 0 (c .if3 .taken)) refl
+    let e = entry b in
+    refuses (t e) (call e) InvalidAddress 2 (sure b .rule, (clock-running (t e) (c .before .if2 .left), tt)) (eq-eqb (e .args .routine) 0 (c .if3 .taken)) refl
 
 to-seconds-requires : tie.Need-to-seconds-requires
 to-seconds-requires c κs = search needs
@@ -72,77 +120,45 @@ same-length-4 c = search needs
 
 returns-4 : tie.Need-returns-4
 returns-4 c =
-    let b = c .before .before .before .before .before .before in
-    let a = b .before .before .before .before .args in
-    let t = a .table .now in
-    let rule = sound-rule t _ (b .before .is-sound .ensures) (b .if1 .left) in
-    let set = c .before .before .before .before .if2 .left in
-    let used = c .before .before .before .if3 .left in
-    refuses t (fireWhen (a .id) (a .when) (a .routine) (a .user-data)) InvalidClock 3 (rule, (clock-running t set, (ne-eqb (a .routine) 0 used, tt)))
-    (not-a-date t (a .when) (c .before .before .to-seconds .ensures) (c .enum-told .given .1)) refl
+    let x = c .before .before .before in
+    let b = tried x in
+    let e = entry b in
+    refuses (t e) (call e) InvalidClock 3 (sure b .rule, (set x, (used x, tt)))
+    (not-a-date (t e) (e .args .when) (c .before .before .to-seconds .ensures) (c .enum-told .given .1)) refl
 
 slice-read-if4 : tie.Need-slice-read-if4
 slice-read-if4 c =
-    let b = c .before .before .before .before .before .before .before .before in
-    let a = b .before .before .before .before .args in
-    let t = a .table .now in
-    let ok = sound-now t _ (b .before .is-sound .ensures) (b .if1 .left) in
-    let h = sound-header t ok in
-    omega arith
+    let h = sound-header _ (sure (c .before .before .before .before .before .before .before .before) .ok) in omega arith
 
 same-length-5 : tie.Need-same-length-5
 same-length-5 c = search needs
 
 returns-5 : tie.Need-returns-5
 returns-5 c =
-    let b = c .before .before .before .before .before .before .before .before .before in
-    let a = b .before .before .before .before .args in
-    let t = a .table .now in
-    let rule = sound-rule t _ (b .before .is-sound .ensures) (b .if1 .left) in
-    let set = c .before .before .before .before .before .before .before .if2 .left in
-    let used = c .before .before .before .before .before .before .if3 .left in
-    let to = c .before .before .before .before .before .to-seconds .ensures in
-    let got = c .before .before .before .date .given .1 in
-    refuses t (fireWhen (a .id) (a .when) (a .routine) (a .user-data)) InvalidClock 3 (rule, (clock-running t set, (ne-eqb (a .routine) 0 used, tt)))
-    (past-date t (a .when) _ to got (omega (arith, c .if4 .taken))) refl
+    let told = c .before .before .before in
+    let x = told .before .before .before in
+    let b = tried x in
+    let e = entry b in
+    refuses (t e) (call e) InvalidClock 3 (sure b .rule, (set x, (used x, tt)))
+    (past-date (t e) (e .args .when) _ (told .before .before .to-seconds .ensures) (told .date .given .1) (omega (arith, c .if4 .taken))) refl
 
 named-requires : tie.Need-named-requires
-named-requires c κs =
-    let b = c .before .before .before .before .before .before .before .before .before .before in
-    let a = b .before .before .before .before .args in
-    let t = a .table .now in
-    let ok = sound-now t _ (b .before .is-sound .ensures) (b .if1 .left) in
-    ok
+named-requires c κs = sure (tried (ready (c .before))) .ok
 
 same-length-6 : tie.Need-same-length-6
 same-length-6 c = search needs
 
 returns-6 : tie.Need-returns-6
 returns-6 c =
-    let b = c .before .before .before .before .before .before .before .before .before .before .before .before in
-    let a = b .before .before .before .before .args in
-    let t = a .table .now in
-    let rule = sound-rule t _ (b .before .is-sound .ensures) (b .if1 .left) in
-    let ok = sound-now t _ (b .before .is-sound .ensures) (b .if1 .left) in
-    let set = c .before .before .before .before .before .before .before .before .before .before .if2 .left in
-    let used = c .before .before .before .before .before .before .before .before .before .if3 .left in
-    let to = c .before .before .before .before .before .before .before .before .to-seconds .ensures in
-    let got = c .before .before .before .before .before .before .date .given .1 in
-    let later = later-date t (a .when) _ to got (omega (arith, c .before .before .before .if4 .left)) in
-    let at = c .before .named .ensures in
-    refuses t (fireWhen (a .id) (a .when) (a .routine) (a .user-data)) InvalidId 4
-    (rule, (clock-running t set, (ne-eqb (a .routine) 0 used, (later, tt))))
-    (unknown t ok (a .id) _ at (c .if5 .taken)) refl
+    let y = c .before .before .before in
+    let x = ready y in
+    let b = tried x in
+    let e = entry b in
+    refuses (t e) (call e) InvalidId 4 (sure b .rule, (set x, (used x, (later y (omega (arith, y .if4 .left)), tt))))
+    (none-named (t e) (e .args .id) (c .before .named .ensures) (c .if5 .taken)) refl
 
 start-requires : tie.Need-start-requires
-start-requires c κs =
-    let b = c .before .before .before .before .before .before .before .before .before .before .before .before .before in
-    let a = b .before .before .before .before .args in
-    let t = a .table .now in
-    let ok = sound-now t _ (b .before .is-sound .ensures) (b .if1 .left) in
-    let some = c .before .if5 .left in
-    let at = c .before .before .named .ensures in
-    (in-table t ok (a .id) _ at some, tt)
+start-requires c κs = (at (c .before) .place, tt)
 
 same-length-7 : tie.Need-same-length-7
 same-length-7 c = search needs
@@ -150,23 +166,15 @@ same-length-7 c = search needs
 returns-7 : tie.Need-returns-7
 returns-7 c =
     let d = c .before .before .before .before in
-    let b = d .before .before .before .before .before .before .before .before .before .before .before .before in
-    let a = b .before .before .before .before .args in
-    let t = a .table .now in
-    let rule = sound-rule t _ (b .before .is-sound .ensures) (b .if1 .left) in
-    let ok = sound-now t _ (b .before .is-sound .ensures) (b .if1 .left) in
-    let set = c .before .before .before .before .before .before .before .before .before .before .before .before .before .before .if2 .left in
-    let used = c .before .before .before .before .before .before .before .before .before .before .before .before .before .if3 .left in
-    let to = c .before .before .before .before .before .before .before .before .before .before .before .before .to-seconds .ensures in
-    let got = c .before .before .before .before .before .before .before .before .before .before .date .given .1 in
-    let later = later-date t (a .when) _ to got (omega (arith, c .before .before .before .before .before .before .before .if4 .left)) in
-    let some = d .if5 .left in
-    let at = d .before .named .ensures in
-    let i = c .before .before .before .before .before .named .result in
-    let is = index-is t ok (a .id) i at some in
-    done t (fireWhen (a .id) (a .when) (a .routine) (a .user-data)) (0 ∷ []) _ []
-    (rule, (clock-running t set, (ne-eqb (a .routine) 0 used, (later, (known t ok (a .id) i at some, tt))))) refl
-    (c .before .before .start .ensures ∙ dated-is t (a .when) _ i _ (a .routine) (a .user-data) to got is) refl
+    let y = d .before .before .before in
+    let x = ready y in
+    let b = tried x in
+    let e = entry b in
+    let a = e .args in
+    let date = told y in
+    done (t e) (call e) (0 ∷ []) _ [] (sure b .rule, (set x, (used x, (later y (omega (arith, y .if4 .left)), (at d .rule, tt))))) refl
+    (dated-is (t e) (a .when) (a .routine) (a .user-data) (date .before .before .to-seconds .ensures) (date .date .given .1) (at d .index)
+    (c .before .before .start .ensures)) refl
 
 pub fire-when-spec : {M : Type 1} → statement M
 fire-when-spec =
