@@ -4,39 +4,27 @@ use mathlib.Core.List.{List, [], _∷_}
 use mathlib.Core.Path.{refl}
 use Prim.Native.Nat.{ℕ}
 use Rattle.model.specs.declared.Status.the-variants.{InvalidId, NotSound}
-use Rattle.model.specs.Calls.{Call, cancel}
 use Rattle.links.proofs.Restart.{stoppedAt}
 use Rattle.timer.proofs.Replies.{Tested, tested, not-same, refuses, done}
 use Rattle.timer.proofs.Tables.{Named, named, none-named, at-index}
 use Rattle.timer.proofs.cancel.Statement.{statement}
 use Rattle.timer.proofs.cancel.Tie as tie
 
--- ---- at the entry
-
-module _ (e : tie.Start) where
-  abbrev t : List ℕ
-  t = e .args .table .now
-
-  abbrev call : Call
-  call = cancel (e .args .id)
-
 -- ---- the table is sound
 
-module _ (b : tie.Else1) where
-  abbrev entry : tie.Start
-  entry = b .before .before .before .before
+abbrev t : tie.Else1 → List ℕ
+t b = b .before .before .before .before .args .table .now
 
-  sure : Tested (t entry)
-  sure = tested (b .before .is-sound .ensures) (b .if1 .left)
+sure : (b : tie.Else1) → Tested (t b)
+sure b = tested (b .before .is-sound .ensures) (b .if1 .left)
 
 -- ---- the id names a slot
 
-module _ (d : tie.Else2) where
-  abbrev found : tie.Else1
-  found = d .before .before .before
+abbrev found : tie.Else2 → tie.Else1
+found d = d .before .before .before
 
-  at : Named (t (entry found)) (entry found .args .id) (d .before .named .result)
-  at = named (sure found .ok) (d .before .named .ensures) (d .if2 .left)
+at : (d : tie.Else2) → Named (t (found d)) (found d .before .before .before .before .args .id) (d .before .named .result)
+at d = named (sure (found d) .ok) (d .before .named .ensures) (d .if2 .left)
 
 -- ---- the needs
 
@@ -47,9 +35,7 @@ same-length : tie.Need-same-length
 same-length c = search needs
 
 returns : tie.Need-returns
-returns c =
-    let e = c .before .before .before .before in
-    refuses (t e) (call e) NotSound 0 tt (not-same (c .before .is-sound .ensures) (c .if1 .taken)) refl
+returns c = refuses _ _ NotSound 0 tt (not-same (c .before .is-sound .ensures) (c .if1 .taken)) refl
 
 named-requires : tie.Need-named-requires
 named-requires c κs = sure (c .before) .ok
@@ -58,10 +44,7 @@ same-length-2 : tie.Need-same-length-2
 same-length-2 c = search needs
 
 returns-2 : tie.Need-returns-2
-returns-2 c =
-    let b = c .before .before .before in
-    let e = entry b in
-    refuses (t e) (call e) InvalidId 1 (sure b .rule, tt) (none-named (t e) (e .args .id) (c .before .named .ensures) (c .if2 .taken)) refl
+returns-2 c = refuses _ _ InvalidId 1 (sure (c .before .before .before) .rule, tt) (none-named _ _ (c .before .named .ensures) (c .if2 .taken)) refl
 
 stop-requires : tie.Need-stop-requires
 stop-requires c κs = at (c .before) .place
@@ -72,10 +55,8 @@ same-length-3 c = search needs
 returns-3 : tie.Need-returns-3
 returns-3 c =
     let d = c .before .before .before .before in
-    let b = found d in
-    let e = entry b in
-    done (t e) (call e) (0 ∷ []) _ [] (sure b .rule, (at d .rule, tt)) refl
-    (at-index (stoppedAt (t e)) (at d) (c .before .before .stop .ensures)) refl
+    done _ _ (0 ∷ []) _ [] (sure (found d) .rule, (at d .rule, tt)) refl
+    (at-index (stoppedAt (t (found d))) (at d) (c .before .before .stop .ensures)) refl
 
 pub cancel-spec : {M : Type 1} → statement M
 cancel-spec =

@@ -4,7 +4,6 @@ use mathlib.Core.List.{List, [], _∷_}
 use mathlib.Core.Path.{refl}
 use Prim.Native.Nat.{ℕ}
 use Rattle.model.specs.declared.Status.the-variants.{InvalidId, NotSound}
-use Rattle.model.specs.Calls.{Call, delete}
 use Rattle.model.specs.State.{free}
 use Rattle.model.specs.Directives.{stopped}
 use Rattle.model.specs.Words.{read}
@@ -13,32 +12,21 @@ use Rattle.timer.proofs.Tables.{Named, named, none-named, at-index, sti
 use Rattle.timer.proofs.delete.Statement.{statement}
 use Rattle.timer.proofs.delete.Tie as tie
 
--- ---- at the entry
-
-module _ (e : tie.Start) where
-  abbrev t : List ℕ
-  t = e .args .table .now
-
-  abbrev call : Call
-  call = delete (e .args .id)
-
 -- ---- the table is sound
 
-module _ (b : tie.Else1) where
-  abbrev entry : tie.Start
-  entry = b .before .before .before .before
+abbrev t : tie.Else1 → List ℕ
+t b = b .before .before .before .before .args .table .now
 
-  sure : Tested (t entry)
-  sure = tested (b .before .is-sound .ensures) (b .if1 .left)
+sure : (b : tie.Else1) → Tested (t b)
+sure b = tested (b .before .is-sound .ensures) (b .if1 .left)
 
 -- ---- the id names a slot
 
-module _ (d : tie.Else2) where
-  abbrev found : tie.Else1
-  found = d .before .before .before
+abbrev found : tie.Else2 → tie.Else1
+found d = d .before .before .before
 
-  at : Named (t (entry found)) (entry found .args .id) (d .before .named .result)
-  at = named (sure found .ok) (d .before .named .ensures) (d .if2 .left)
+at : (d : tie.Else2) → Named (t (found d)) (found d .before .before .before .before .args .id) (d .before .named .result)
+at d = named (sure (found d) .ok) (d .before .named .ensures) (d .if2 .left)
 
 -- ---- the needs
 
@@ -49,9 +37,7 @@ same-length : tie.Need-same-length
 same-length c = search needs
 
 returns : tie.Need-returns
-returns c =
-    let e = c .before .before .before .before in
-    refuses (t e) (call e) NotSound 0 tt (not-same (c .before .is-sound .ensures) (c .if1 .taken)) refl
+returns c = refuses _ _ NotSound 0 tt (not-same (c .before .is-sound .ensures) (c .if1 .taken)) refl
 
 named-requires : tie.Need-named-requires
 named-requires c κs = sure (c .before) .ok
@@ -60,10 +46,7 @@ same-length-2 : tie.Need-same-length-2
 same-length-2 c = search needs
 
 returns-2 : tie.Need-returns-2
-returns-2 c =
-    let b = c .before .before .before in
-    let e = entry b in
-    refuses (t e) (call e) InvalidId 1 (sure b .rule, tt) (none-named (t e) (e .args .id) (c .before .named .ensures) (c .if2 .taken)) refl
+returns-2 c = refuses _ _ InvalidId 1 (sure (c .before .before .before) .rule, tt) (none-named _ _ (c .before .named .ensures) (c .if2 .taken)) refl
 
 stop-requires : tie.Need-stop-requires
 stop-requires c κs = at (c .before) .place
@@ -81,10 +64,9 @@ returns-3 c =
     let stop = c .before .before .before .before .before .before in
     let d = stop .before .before in
     let b = found d in
-    let e = entry b in
-    let deleted = deleted-is (t e) (sure b .ok) _ (at d .place) _ (stop .stop .ensures) _ (c .before .before .store .ensures) in
-    done (t e) (call e) (0 ∷ []) _ [] (sure b .rule, (at d .rule, tt)) refl
-    (at-index (λ k. stopped (read (t e)) k free) (at d) deleted) refl
+    done _ _ (0 ∷ []) _ [] (sure b .rule, (at d .rule, tt)) refl
+    (at-index (λ k. stopped (read (t b)) k free) (at d)
+    (deleted-is (t b) (sure b .ok) _ (at d .place) _ (stop .stop .ensures) _ (c .before .before .store .ensures))) refl
 
 pub delete-spec : {M : Type 1} → statement M
 delete-spec =

@@ -7,7 +7,6 @@ use Prim.Native.Nat.{ℕ}
 use native.Mathlib.Omega.{arith}
 use Rattle.model.specs.declared.Chain.the-variants.{ByTicks}
 use Rattle.model.specs.declared.Status.the-variants.{InvalidId, InvalidAddress, InvalidNumber, NotSound}
-use Rattle.model.specs.Calls.{Call, fireAfter}
 use Rattle.model.specs.Directives.{started}
 use Rattle.model.specs.Words.{read}
 use Rattle.timer.proofs.Replies.{Tested, tested, not-same, refuses, done}
@@ -15,32 +14,21 @@ use Rattle.timer.proofs.Tables.{Named, named, none-named, at-index}
 use Rattle.timer.proofs.fire_after.Statement.{statement}
 use Rattle.timer.proofs.fire_after.Tie as tie
 
--- ---- at the entry
-
-module _ (e : tie.Start) where
-  abbrev t : List ℕ
-  t = e .args .table .now
-
-  abbrev call : Call
-  call = fireAfter (e .args .id) (e .args .ticks) (e .args .routine) (e .args .user-data)
-
 -- ---- the table is sound
 
-module _ (b : tie.Else1) where
-  abbrev entry : tie.Start
-  entry = b .before .before .before .before
+abbrev t : tie.Else1 → List ℕ
+t b = b .before .before .before .before .args .table .now
 
-  sure : Tested (t entry)
-  sure = tested (b .before .is-sound .ensures) (b .if1 .left)
+sure : (b : tie.Else1) → Tested (t b)
+sure b = tested (b .before .is-sound .ensures) (b .if1 .left)
 
 -- ---- the id names a slot
 
-module _ (d : tie.Else4) where
-  abbrev found : tie.Else1
-  found = d .before .before .before .before .before
+abbrev found : tie.Else4 → tie.Else1
+found d = d .before .before .before .before .before
 
-  at : Named (t (entry found)) (entry found .args .id) (d .before .named .result)
-  at = named (sure found .ok) (d .before .named .ensures) (d .if4 .left)
+at : (d : tie.Else4) → Named (t (found d)) (found d .before .before .before .before .args .id) (d .before .named .result)
+at d = named (sure (found d) .ok) (d .before .named .ensures) (d .if4 .left)
 
 -- ---- the needs
 
@@ -51,28 +39,19 @@ same-length : tie.Need-same-length
 same-length c = search needs
 
 returns : tie.Need-returns
-returns c =
-    let e = c .before .before .before .before in
-    refuses (t e) (call e) NotSound 0 tt (not-same (c .before .is-sound .ensures) (c .if1 .taken)) refl
+returns c = refuses _ _ NotSound 0 tt (not-same (c .before .is-sound .ensures) (c .if1 .taken)) refl
 
 same-length-2 : tie.Need-same-length-2
 same-length-2 c = search needs
 
 returns-2 : tie.Need-returns-2
-returns-2 c =
-    let b = c .before in
-    let e = entry b in
-    refuses (t e) (call e) InvalidNumber 1 (sure b .rule, tt) (eq-eqb (e .args .ticks) 0 (c .if2 .taken)) refl
+returns-2 c = refuses _ _ InvalidNumber 1 (sure (c .before) .rule, tt) (eq-eqb _ 0 (c .if2 .taken)) refl
 
 same-length-3 : tie.Need-same-length-3
 same-length-3 c = search needs
 
 returns-3 : tie.Need-returns-3
-returns-3 c =
-    let b = c .before .before in
-    let e = entry b in
-    refuses (t e) (call e) InvalidAddress 2 (sure b .rule, (ne-eqb (e .args .ticks) 0 (c .before .if2 .left), tt))
-    (eq-eqb (e .args .routine) 0 (c .if3 .taken)) refl
+returns-3 c = refuses _ _ InvalidAddress 2 (sure (c .before .before) .rule, (ne-eqb _ 0 (c .before .if2 .left), tt)) (eq-eqb _ 0 (c .if3 .taken)) refl
 
 named-requires : tie.Need-named-requires
 named-requires c κs = sure (c .before .before .before) .ok
@@ -83,11 +62,8 @@ same-length-4 c = search needs
 returns-4 : tie.Need-returns-4
 returns-4 c =
     let used = c .before .before .before in
-    let b = used .before .before in
-    let e = entry b in
-    refuses (t e) (call e) InvalidId 3
-    (sure b .rule, (ne-eqb (e .args .ticks) 0 (used .before .if2 .left), (ne-eqb (e .args .routine) 0 (used .if3 .left), tt)))
-    (none-named (t e) (e .args .id) (c .before .named .ensures) (c .if4 .taken)) refl
+    refuses _ _ InvalidId 3 (sure (used .before .before) .rule, (ne-eqb _ 0 (used .before .if2 .left), (ne-eqb _ 0 (used .if3 .left), tt)))
+    (none-named _ _ (c .before .named .ensures) (c .if4 .taken)) refl
 
 start-requires : tie.Need-start-requires
 start-requires c κs = (at (c .before) .place, omega arith)
@@ -100,11 +76,9 @@ returns-5 c =
     let d = c .before .before .before .before in
     let used = d .before .before .before in
     let b = found d in
-    let e = entry b in
-    let a = e .args in
-    done (t e) (call e) (0 ∷ []) _ []
-    (sure b .rule, (ne-eqb (a .ticks) 0 (used .before .if2 .left), (ne-eqb (a .routine) 0 (used .if3 .left), (at d .rule, tt)))) refl
-    (at-index (λ k. started ByTicks (read (t e)) k (a .ticks) (a .ticks) (a .routine) (a .user-data)) (at d) (c .before .before .start .ensures)) refl
+    let a = b .before .before .before .before .args in
+    done _ _ (0 ∷ []) _ [] (sure b .rule, (ne-eqb _ 0 (used .before .if2 .left), (ne-eqb _ 0 (used .if3 .left), (at d .rule, tt)))) refl
+    (at-index (λ k. started ByTicks (read (t b)) k (a .ticks) (a .ticks) (a .routine) (a .user-data)) (at d) (c .before .before .start .ensures)) refl
 
 pub fire-after-spec : {M : Type 1} → statement M
 fire-after-spec =

@@ -5,39 +5,27 @@ use mathlib.Core.Path.{refl}
 use Prim.Native.Nat.{ℕ}
 use native.Mathlib.Omega.{arith}
 use Rattle.model.specs.declared.Status.the-variants.{InvalidId, NotDefined, NotSound}
-use Rattle.model.specs.Calls.{Call, reset}
 use Rattle.timer.proofs.Replies.{Tested, tested, not-same, refuses, done}
 use Rattle.timer.proofs.Tables.{Named, named, none-named}
 use Rattle.timer.proofs.SlotWords.{timed, reset-is}
 use Rattle.timer.proofs.reset.Statement.{statement}
 use Rattle.timer.proofs.reset.Tie as tie
 
--- ---- at the entry
-
-module _ (e : tie.Start) where
-  abbrev t : List ℕ
-  t = e .args .table .now
-
-  abbrev call : Call
-  call = reset (e .args .id)
-
 -- ---- the table is sound
 
-module _ (b : tie.Else1) where
-  abbrev entry : tie.Start
-  entry = b .before .before .before .before
+abbrev t : tie.Else1 → List ℕ
+t b = b .before .before .before .before .args .table .now
 
-  sure : Tested (t entry)
-  sure = tested (b .before .is-sound .ensures) (b .if1 .left)
+sure : (b : tie.Else1) → Tested (t b)
+sure b = tested (b .before .is-sound .ensures) (b .if1 .left)
 
 -- ---- the id names a slot
 
-module _ (d : tie.Else2) where
-  abbrev found : tie.Else1
-  found = d .before .before .before
+abbrev found : tie.Else2 → tie.Else1
+found d = d .before .before .before
 
-  at : Named (t (entry found)) (entry found .args .id) (d .before .named .result)
-  at = named (sure found .ok) (d .before .named .ensures) (d .if2 .left)
+at : (d : tie.Else2) → Named (t (found d)) (found d .before .before .before .before .args .id) (d .before .named .result)
+at d = named (sure (found d) .ok) (d .before .named .ensures) (d .if2 .left)
 
 -- ---- the needs
 
@@ -48,9 +36,7 @@ same-length : tie.Need-same-length
 same-length c = search needs
 
 returns : tie.Need-returns
-returns c =
-    let e = c .before .before .before .before in
-    refuses (t e) (call e) NotSound 0 tt (not-same (c .before .is-sound .ensures) (c .if1 .taken)) refl
+returns c = refuses _ _ NotSound 0 tt (not-same (c .before .is-sound .ensures) (c .if1 .taken)) refl
 
 named-requires : tie.Need-named-requires
 named-requires c κs = sure (c .before) .ok
@@ -59,10 +45,7 @@ same-length-2 : tie.Need-same-length-2
 same-length-2 c = search needs
 
 returns-2 : tie.Need-returns-2
-returns-2 c =
-    let b = c .before .before .before in
-    let e = entry b in
-    refuses (t e) (call e) InvalidId 1 (sure b .rule, tt) (none-named (t e) (e .args .id) (c .before .named .ensures) (c .if2 .taken)) refl
+returns-2 c = refuses _ _ InvalidId 1 (sure (c .before .before .before) .rule, tt) (none-named _ _ (c .before .named .ensures) (c .if2 .taken)) refl
 
 get-requires : tie.Need-get-requires
 get-requires c κs = (omega arith, at (c .before) .inside)
@@ -76,9 +59,7 @@ same-length-3 c = search needs
 returns-3 : tie.Need-returns-3
 returns-3 c =
     let d = c .before .before .before .before in
-    let b = found d in
-    let e = entry b in
-    refuses (t e) (call e) NotDefined 2 (sure b .rule, (at d .rule, tt))
+    refuses _ _ NotDefined 2 (sure (found d) .rule, (at d .rule, tt))
     (not-same (timed (at d) (c .before .before .get .ensures) (c .before .was-by-ticks .ensures)) (c .if3 .taken)) refl
 
 get-requires-2 : tie.Need-get-requires-2
@@ -103,10 +84,8 @@ returns-4 c =
     let ticks = routine .before .before in
     let again = ticks .before .before in
     let d = again .before .before .before .before in
-    let b = found d in
-    let e = entry b in
     let by-ticks = not-same (timed (at d) (again .before .before .get .ensures) (again .before .was-by-ticks .ensures)) (again .if3 .left) in
-    done (t e) (call e) (0 ∷ []) _ [] (sure b .rule, (at d .rule, (by-ticks, tt))) refl
+    done _ _ (0 ∷ []) _ [] (sure (found d) .rule, (at d .rule, (by-ticks, tt))) refl
     (reset-is (at d) (c .before .before .start .ensures) (ticks .get2 .ensures) (routine .get3 .ensures) (user .get4 .ensures)) refl
 
 pub reset-spec : {M : Type 1} → statement M

@@ -5,39 +5,27 @@ use mathlib.Core.Path.{refl, sym, _∙_}
 use Prim.Native.Nat.{ℕ}
 use native.Mathlib.Omega.{arith}
 use Rattle.model.specs.declared.Status.the-variants.{InvalidId, NotSound}
-use Rattle.model.specs.Calls.{Call, ticksLeft}
 use Rattle.timer.proofs.Replies.{Tested, tested, not-same, refuses, done, same-table}
 use Rattle.timer.proofs.Tables.{Named, named, none-named}
 use Rattle.timer.proofs.SlotWords.{no-ticks, ticks-met, some-ticks}
 use Rattle.timer.proofs.ticks_left.Statement.{statement}
 use Rattle.timer.proofs.ticks_left.Tie as tie
 
--- ---- at the entry
-
-module _ (e : tie.Start) where
-  abbrev t : List ℕ
-  t = e .args .table .now
-
-  abbrev call : Call
-  call = ticksLeft (e .args .id)
-
 -- ---- the table is sound
 
-module _ (b : tie.Else1) where
-  abbrev entry : tie.Start
-  entry = b .before .before .before
+abbrev t : tie.Else1 → List ℕ
+t b = b .before .before .before .args .table .now
 
-  sure : Tested (t entry)
-  sure = tested (b .before .is-sound .ensures) (b .if1 .left)
+sure : (b : tie.Else1) → Tested (t b)
+sure b = tested (b .before .is-sound .ensures) (b .if1 .left)
 
 -- ---- the id names a slot
 
-module _ (d : tie.Else2) where
-  abbrev found : tie.Else1
-  found = d .before .before
+abbrev found : tie.Else2 → tie.Else1
+found d = d .before .before
 
-  at : Named (t (entry found)) (entry found .args .id) (d .before .named .result)
-  at = named (sure found .ok) (d .before .named .ensures) (d .if2 .left)
+at : (d : tie.Else2) → Named (t (found d)) (found d .before .before .before .args .id) (d .before .named .result)
+at d = named (sure (found d) .ok) (d .before .named .ensures) (d .if2 .left)
 
 -- ---- the needs
 
@@ -45,18 +33,13 @@ is-sound-requires : tie.Need-is-sound-requires
 is-sound-requires c κs = search needs
 
 returns : tie.Need-returns
-returns c =
-    let e = c .before .before .before in
-    refuses (t e) (call e) NotSound 0 tt (not-same (c .before .is-sound .ensures) (c .if1 .taken)) refl
+returns c = refuses _ _ NotSound 0 tt (not-same (c .before .is-sound .ensures) (c .if1 .taken)) refl
 
 named-requires : tie.Need-named-requires
 named-requires c κs = sure c .ok
 
 returns-2 : tie.Need-returns-2
-returns-2 c =
-    let b = c .before .before in
-    let e = entry b in
-    refuses (t e) (call e) InvalidId 1 (sure b .rule, tt) (none-named (t e) (e .args .id) (c .before .named .ensures) (c .if2 .taken)) refl
+returns-2 c = refuses _ _ InvalidId 1 (sure (c .before .before) .rule, tt) (none-named _ _ (c .before .named .ensures) (c .if2 .taken)) refl
 
 get-requires : tie.Need-get-requires
 get-requires c κs = (omega arith, at c .inside)
@@ -64,10 +47,8 @@ get-requires c κs = (omega arith, at c .inside)
 returns-3 : tie.Need-returns-3
 returns-3 c =
     let d = c .before .before in
-    let b = found d in
-    let e = entry b in
-    done (t e) (call e) (0 ∷ []) (t e) [] (sure b .rule, (at d .rule, tt))
-    (no-ticks (at d) (λ z. c .if3 .taken (c .before .get .ensures ∙ z))) (same-table (t e) (sure b .ok)) refl
+    let s = sure (found d) in
+    done _ _ (0 ∷ []) _ [] (s .rule, (at d .rule, tt)) (no-ticks (at d) (λ z. c .if3 .taken (c .before .get .ensures ∙ z))) (same-table _ (s .ok)) refl
 
 ticks-to-requires : tie.Need-ticks-to-requires
 ticks-to-requires c κs =
@@ -77,9 +58,8 @@ ticks-to-requires c κs =
 returns-4 : tie.Need-returns-4
 returns-4 c =
     let d = c .before .before .before in
-    let b = found d in
-    let e = entry b in
-    done (t e) (call e) (_ ∷ []) (t e) [] (sure b .rule, (at d .rule, tt)) (some-ticks (at d) _ (c .ticks-to .ensures)) (same-table (t e) (sure b .ok)) refl
+    let s = sure (found d) in
+    done _ _ (_ ∷ []) _ [] (s .rule, (at d .rule, tt)) (some-ticks (at d) _ (c .ticks-to .ensures)) (same-table _ (s .ok)) refl
 
 pub ticks-left-spec : {M : Type 1} → statement M
 ticks-left-spec =
