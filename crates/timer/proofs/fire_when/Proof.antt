@@ -8,7 +8,6 @@ use Prim.Native.Nat.{ℕ, _<_}
 use native.Mathlib.Omega.{arith}
 use lib.Dec.{eqb}
 use Rattle.model.specs.declared.Status.the-variants.{InvalidId, InvalidAddress, NotDefined, InvalidClock, NotSound}
-use Rattle.model.specs.Calls.{Call, fireWhen}
 use Rattle.model.specs.Directives.{notAhead}
 use Rattle.model.specs.Words.{word, read}
 use Rattle.model.proofs.SoundHolds.{sound-header}
@@ -18,59 +17,47 @@ use Rattle.timer.proofs.Clocks.{clock-unset, clock-running, not-a-date,
 use Rattle.timer.proofs.fire_when.Statement.{statement}
 use Rattle.timer.proofs.fire_when.Tie as tie
 
--- ---- at the entry
-
-module _ (e : tie.Start) where
-  abbrev t : List ℕ
-  t = e .args .table .now
-
-  abbrev call : Call
-  call = fireWhen (e .args .id) (e .args .when) (e .args .routine) (e .args .user-data)
-
 -- ---- the table is sound
 
-module _ (b : tie.Else1) where
-  abbrev entry : tie.Start
-  entry = b .before .before .before .before
+abbrev t : tie.Else1 → List ℕ
+t b = b .before .before .before .before .args .table .now
 
-  sure : Tested (t entry)
-  sure = tested (b .before .is-sound .ensures) (b .if1 .left)
+sure : (b : tie.Else1) → Tested (t b)
+sure b = tested (b .before .is-sound .ensures) (b .if1 .left)
 
 -- ---- the clock is set and the routine is not 0
 
-module _ (x : tie.Else3) where
-  abbrev tried : tie.Else1
-  tried = x .before .before .before
+abbrev tried : tie.Else3 → tie.Else1
+tried x = x .before .before .before
 
-  set : not (read (t (entry tried)) .clock .isSet) ≡ false
-  set = clock-running (t (entry tried)) (x .before .if2 .left)
+set : (x : tie.Else3) → not (read (t (tried x)) .clock .isSet) ≡ false
+set x = clock-running (t (tried x)) (x .before .if2 .left)
 
-  used : eqb (entry tried .args .routine) 0 ≡ false
-  used = ne-eqb (entry tried .args .routine) 0 (x .if3 .left)
+used : (x : tie.Else3) → eqb (tried x .before .before .before .before .args .routine) 0 ≡ false
+used x = ne-eqb _ 0 (x .if3 .left)
 
--- ---- the date is ahead
+-- ---- the date was read, and then found to be ahead
+
+abbrev ready : tie.After-date → tie.Else3
+ready z = z .before .before .before
 
 module _ (y : tie.Else4) where
   abbrev told : tie.After-date
   told = y .before .before .before
 
-  abbrev ready : tie.Else3
-  ready = told .before .before .before
+  abbrev b : tie.Else1
+  b = tried (ready told)
 
-  abbrev began : tie.Start
-  began = entry (tried ready)
-
-  later : word (t began) 3 < told .date .given .0 .0 → notAhead (read (t began)) (began .args .when) ≡ false
-  later = later-date (t began) (began .args .when) _ (told .before .before .to-seconds .ensures) (told .date .given .1)
+  later : word (t b) 3 < told .date .given .0 .0 → notAhead (read (t b)) (b .before .before .before .before .args .when) ≡ false
+  later = later-date (t b) _ _ (told .before .before .to-seconds .ensures) (told .date .given .1)
 
 -- ---- the id names a slot
 
-module _ (d : tie.Else5) where
-  abbrev found : tie.Else1
-  found = d .before .before .before .before .before .before .before .before .before .before .before .before
+abbrev found : tie.Else5 → tie.Else1
+found d = b (d .before .before .before)
 
-  at : Named (t (entry found)) (entry found .args .id) (d .before .named .result)
-  at = named (sure found .ok) (d .before .named .ensures) (d .if5 .left)
+at : (d : tie.Else5) → Named (t (found d)) (found d .before .before .before .before .args .id) (d .before .named .result)
+at d = named (sure (found d) .ok) (d .before .named .ensures) (d .if5 .left)
 
 -- ---- the needs
 
@@ -81,30 +68,23 @@ same-length : tie.Need-same-length
 same-length c = search needs
 
 returns : tie.Need-returns
-returns c =
-    let e = c .before .before .before .before in
-    refuses (t e) (call e) NotSound 0 tt (not-same (c .before .is-sound .ensures) (c .if1 .taken)) refl
+returns c = refuses _ _ NotSound 0 tt (not-same (c .before .is-sound .ensures) (c .if1 .taken)) refl
 
 slice-read-if2 : tie.Need-slice-read-if2
-slice-read-if2 c =
-    let h = sound-header _ (sure (c .before) .ok) in omega arith
+slice-read-if2 c = let h = sound-header _ (sure (c .before) .ok) in omega arith
 
 same-length-2 : tie.Need-same-length-2
 same-length-2 c = search needs
 
 returns-2 : tie.Need-returns-2
-returns-2 c =
-    let b = c .before .before in
-    refuses (t (entry b)) (call (entry b)) NotDefined 1 (sure b .rule, tt) (clock-unset (t (entry b)) (c .if2 .taken)) refl
+returns-2 c = let b = c .before .before in refuses _ _ NotDefined 1 (sure b .rule, tt) (clock-unset (t b) (c .if2 .taken)) refl
 
 same-length-3 : tie.Need-same-length-3
 same-length-3 c = search needs
 
 returns-3 : tie.Need-returns-3
 returns-3 c =
-    let b = c .before .before .before in
-    let e = entry b in
-    refuses (t e) (call e) InvalidAddress 2 (sure b .rule, (clock-running (t e) (c .before .if2 .left), tt)) (eq-eqb (e .args .routine) 0 (c .if3 .taken)) refl
+    refuses _ _ InvalidAddress 2 (sure (c .before .before .before) .rule, (clock-running (t (c .before .before .before)) (c .before .if2 .left), tt)) (eq-eqb _ 0 (c .if3 .taken)) refl
 
 to-seconds-requires : tie.Need-to-seconds-requires
 to-seconds-requires c κs = search needs
@@ -121,29 +101,24 @@ same-length-4 c = search needs
 returns-4 : tie.Need-returns-4
 returns-4 c =
     let x = c .before .before .before in
-    let b = tried x in
-    let e = entry b in
-    refuses (t e) (call e) InvalidClock 3 (sure b .rule, (set x, (used x, tt)))
-    (not-a-date (t e) (e .args .when) (c .before .before .to-seconds .ensures) (c .enum-told .given .1)) refl
+    refuses _ _ InvalidClock 3 (sure (tried x) .rule, (set x, (used x, tt)))
+    (not-a-date (t (tried x)) _ (c .before .before .to-seconds .ensures) (c .enum-told .given .1)) refl
 
 slice-read-if4 : tie.Need-slice-read-if4
-slice-read-if4 c =
-    let h = sound-header _ (sure (c .before .before .before .before .before .before .before .before) .ok) in omega arith
+slice-read-if4 c = let h = sound-header _ (sure (tried (ready (c .before .before))) .ok) in omega arith
 
 same-length-5 : tie.Need-same-length-5
 same-length-5 c = search needs
 
 returns-5 : tie.Need-returns-5
 returns-5 c =
-    let told = c .before .before .before in
-    let x = told .before .before .before in
-    let b = tried x in
-    let e = entry b in
-    refuses (t e) (call e) InvalidClock 3 (sure b .rule, (set x, (used x, tt)))
-    (past-date (t e) (e .args .when) _ (told .before .before .to-seconds .ensures) (told .date .given .1) (omega (arith, c .if4 .taken))) refl
+    let z = c .before .before .before in
+    let x = ready z in
+    refuses _ _ InvalidClock 3 (sure (tried x) .rule, (set x, (used x, tt)))
+    (past-date (t (tried x)) _ _ (z .before .before .to-seconds .ensures) (z .date .given .1) (omega (arith, c .if4 .taken))) refl
 
 named-requires : tie.Need-named-requires
-named-requires c κs = sure (tried (ready (c .before))) .ok
+named-requires c κs = sure (b (c .before)) .ok
 
 same-length-6 : tie.Need-same-length-6
 same-length-6 c = search needs
@@ -151,11 +126,9 @@ same-length-6 c = search needs
 returns-6 : tie.Need-returns-6
 returns-6 c =
     let y = c .before .before .before in
-    let x = ready y in
-    let b = tried x in
-    let e = entry b in
-    refuses (t e) (call e) InvalidId 4 (sure b .rule, (set x, (used x, (later y (omega (arith, y .if4 .left)), tt))))
-    (none-named (t e) (e .args .id) (c .before .named .ensures) (c .if5 .taken)) refl
+    let x = ready (told y) in
+    refuses _ _ InvalidId 4 (sure (b y) .rule, (set x, (used x, (later y (omega (arith, y .if4 .left)), tt))))
+    (none-named _ _ (c .before .named .ensures) (c .if5 .taken)) refl
 
 start-requires : tie.Need-start-requires
 start-requires c κs = (at (c .before) .place, tt)
@@ -167,13 +140,11 @@ returns-7 : tie.Need-returns-7
 returns-7 c =
     let d = c .before .before .before .before in
     let y = d .before .before .before in
-    let x = ready y in
-    let b = tried x in
-    let e = entry b in
-    let a = e .args in
-    let date = told y in
-    done (t e) (call e) (0 ∷ []) _ [] (sure b .rule, (set x, (used x, (later y (omega (arith, y .if4 .left)), (at d .rule, tt))))) refl
-    (dated-is (t e) (a .when) (a .routine) (a .user-data) (date .before .before .to-seconds .ensures) (date .date .given .1) (at d .index)
+    let z = told y in
+    let x = ready z in
+    let a = b y .before .before .before .before .args in
+    done _ _ (0 ∷ []) _ [] (sure (b y) .rule, (set x, (used x, (later y (omega (arith, y .if4 .left)), (at d .rule, tt))))) refl
+    (dated-is (t (b y)) (a .when) (a .routine) (a .user-data) (z .before .before .to-seconds .ensures) (z .date .given .1) (at d .index)
     (c .before .before .start .ensures)) refl
 
 pub fire-when-spec : {M : Type 1} → statement M
