@@ -14,33 +14,24 @@ use Rattle.model.proofs.ReadBack.{slots-length}
 use Rattle.slots.specs.Search.{lowestWith}
 use Rattle.slots.proofs.Laws.{free-found, name-found}
 
-module _ (t : List ℕ) (name i : ℕ) (e : i ≡ lowestWith t 1 name 1 (word t 0)) where
-  is-named : lowestNamed (read t) name ≡ i
-  is-named = name-found t name ∙ sym e
+-- a search of the model that answers what the code found, and 0 for none
+module _ {n i : ℕ} (is : n ≡ i) where
+  pub none-found : i ≡ 0 → eqb n 0 ≡ true
+  none-found z = eq-eqb n 0 (is ∙ z)
 
-  pub no-name : i ≡ 0 → eqb (lowestNamed (read t) name) 0 ≡ true
-  no-name z = eq-eqb (lowestNamed (read t) name) 0 (is-named ∙ z)
+  pub some-found : (i ≡ 0 → ⊥) → eqb n 0 ≡ false
+  some-found k = ne-eqb n 0 (λ z. k (sym is ∙ z))
 
-  pub some-name : (i ≡ 0 → ⊥) → eqb (lowestNamed (read t) name) 0 ≡ false
-  some-name n = ne-eqb (lowestNamed (read t) name) 0 (λ z. n (sym is-named ∙ z))
+  pub id-found : _≡_ {A = List ℕ} ((idBase + i) ∷ []) ((idBase + n) ∷ [])
+  id-found = ap {B = List ℕ} (λ (m : ℕ). (idBase + m) ∷ []) (sym is)
 
-  pub name-answers : _≡_ {A = List ℕ} ((idBase + i) ∷ []) ((idBase + lowestNamed (read t) name) ∷ [])
-  name-answers = ap {B = List ℕ} (λ (n : ℕ). (idBase + n) ∷ []) (sym is-named)
+pub is-free : (t : List ℕ) {i : ℕ} → i ≡ lowestWith t 0 0 1 (word t 0) → lowestFree (read t) ≡ i
+is-free t e = free-found t ∙ sym e
 
-  pub name-high : (i ≡ 0 → ⊥) → i ≤ word t 0
-  name-high n =
-      let f = found (λ x. eqb (x .name) name) (read t .slots) (omega (arith, is-named, n)) in
-      omega (arith, f .high, slots-length t, is-named)
+pub is-named : (t : List ℕ) (name : ℕ) {i : ℕ} → i ≡ lowestWith t 1 name 1 (word t 0) → lowestNamed (read t) name ≡ i
+is-named t name e = name-found t name ∙ sym e
 
-module _ (t : List ℕ) (i : ℕ) (e : i ≡ lowestWith t 0 0 1 (word t 0)) where
-  pub is-free : lowestFree (read t) ≡ i
-  is-free = free-found t ∙ sym e
-
-  pub none-free : i ≡ 0 → eqb (lowestFree (read t)) 0 ≡ true
-  none-free z = eq-eqb (lowestFree (read t)) 0 (is-free ∙ z)
-
-  pub some-free : (i ≡ 0 → ⊥) → eqb (lowestFree (read t)) 0 ≡ false
-  some-free n = ne-eqb (lowestFree (read t)) 0 (λ z. n (sym is-free ∙ z))
-
-  pub free-answers : _≡_ {A = List ℕ} ((idBase + i) ∷ []) ((idBase + lowestFree (read t)) ∷ [])
-  free-answers = ap {B = List ℕ} (λ (n : ℕ). (idBase + n) ∷ []) (sym is-free)
+pub name-high : (t : List ℕ) (name : ℕ) {i : ℕ} → lowestNamed (read t) name ≡ i → (i ≡ 0 → ⊥) → i ≤ word t 0
+name-high t name is n =
+    let f = found (λ x. eqb (x .name) name) (read t .slots) (omega (arith, is, n)) in
+    omega (arith, f .high, slots-length t, is)

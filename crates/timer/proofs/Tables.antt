@@ -73,15 +73,14 @@ module _ (t : List ℕ) (ok : sound t ≡ true) where
 
   -- ---- create
 
-  module _ (i : ℕ) (e : i ≡ lowestWith t 0 0 1 (word t 0)) (some : i ≡ 0 → ⊥) where
-    pub free-in-table : InTable t i
-    free-in-table =
-        let is : lowestFree (read t) ≡ i = free-found t ∙ sym e in
+  module _ {i : ℕ} (is : lowestFree (read t) ≡ i) where
+    pub free-in-table : (i ≡ 0 → ⊥) → InTable t i
+    free-in-table some =
         let f = found (λ x. eqb (x .kind) 0) (read t .slots) (omega (arith, is, some)) in
         record { holds = sound-holds t ok; low = omega (arith, some); high = omega (arith, f .high, slots-length t, is) }
 
-    pub created-is : (u : List ℕ) (name : ℕ) → u ≡ over (stored (read t) i (unused name)) t → u ≡ over (stored (read t) (lowestFree (read t)) (unused name)) t
-    created-is u name h = h ∙ ap (λ (k : ℕ). over (stored (read t) k (unused name)) t) (e ∙ sym (free-found t))
+    pub created-is : {u : List ℕ} (name : ℕ) → u ≡ over (stored (read t) i (unused name)) t → u ≡ over (stored (read t) (lowestFree (read t)) (unused name)) t
+    created-is name h = h ∙ ap (λ (k : ℕ). over (stored (read t) k (unused name)) t) (sym is)
 
   -- ---- delete
 
