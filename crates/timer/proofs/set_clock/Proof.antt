@@ -1,18 +1,15 @@
 -- `timer::set_clock` meets its contract: the clock is set, and the dated timers then due fire. Assumes nothing.
 use borrow.Author.Needs.{needs}
-use mathlib.Core.Bool.{true, false, not}
 use mathlib.Core.List.{List}
-use mathlib.Core.Path.{_≡_, refl}
+use mathlib.Core.Path.{refl}
 use Prim.Native.Nat.{ℕ, _*_, _≤_}
 use native.Mathlib.Omega.{arith}
 use lib.ListN.{length}
 use Rattle.model.specs.declared.Status.the-variants.{InvalidClock, NotSound, ListTooShort}
-use Rattle.model.specs.Calls.{Call, setClock}
 use Rattle.model.specs.Words.{word}
-use Rattle.model.specs.Sound.{sound}
 use Rattle.model.proofs.SoundHolds.{sound-header, sound-holds}
 use Rattle.firing.proofs.Ticks.{moved-room, moved-is}
-use Rattle.timer.proofs.Replies.{refuses, unsound, sound-rule, sound-now}
+use Rattle.timer.proofs.Replies.{Tested, tested, not-same, refuses}
 use Rattle.timer.proofs.Lists.{too-short, long-enough, not-short}
 use Rattle.timer.proofs.Clocks.{not-valid, is-valid, second-is, set-clock-done}
 use Rattle.timer.proofs.set_clock.Statement.{statement}
@@ -20,30 +17,22 @@ use Rattle.timer.proofs.set_clock.Tie as tie
 
 -- ---- the table is sound
 
-module _ (b : tie.Else1) where
-  abbrev t : List ℕ
-  t = b .before .before .before .before .before .args .table .now
+abbrev t : tie.Else1 → List ℕ
+t b = b .before .before .before .before .before .args .table .now
 
-  abbrev list : List ℕ
-  list = b .before .before .before .before .before .args .fired .now
+abbrev list : tie.Else1 → List ℕ
+list b = b .before .before .before .before .before .args .fired .now
 
-  abbrev call : Call
-  call = setClock (b .before .before .before .before .before .args .time) list
-
-  ok : sound t ≡ true
-  ok = sound-now t _ (b .before .is-sound .ensures) (b .if1 .left)
-
-  rule : not (sound t) ≡ false
-  rule = sound-rule t _ (b .before .is-sound .ensures) (b .if1 .left)
+sure : (b : tie.Else1) → Tested (t b)
+sure b = tested (b .before .is-sound .ensures) (b .if1 .left)
 
 -- ---- the list is long enough
 
-module _ (d : tie.Else2) where
-  abbrev sure : tie.Else1
-  sure = d .before .before .before
+abbrev found : tie.Else2 → tie.Else1
+found d = d .before .before .before
 
-  long : 3 * word (t sure) 0 ≤ length (list sure)
-  long = long-enough (t sure) (list sure) _ (d .before .list-words .ensures) (d .if2 .left)
+long : (d : tie.Else2) → 3 * word (t (found d)) 0 ≤ length (list (found d))
+long d = long-enough (t (found d)) (list (found d)) _ (d .before .list-words .ensures) (d .if2 .left)
 
 -- ---- the needs
 
@@ -54,16 +43,13 @@ same-length : tie.Need-same-length
 same-length c = search needs
 
 returns : tie.Need-returns
-returns c =
-    let a = c .before .before .before .before .before .args in
-    let t = a .table .now in
-    refuses t (setClock (a .time) (a .fired .now)) NotSound 0 tt (unsound t _ (c .before .is-sound .ensures) (c .if1 .taken)) refl
+returns c = refuses _ _ NotSound 0 tt (not-same (c .before .is-sound .ensures) (c .if1 .taken)) refl
 
 slice-read-list-words : tie.Need-slice-read-list-words
-slice-read-list-words c = let h = sound-header (t (c .before)) (ok (c .before)) in omega arith
+slice-read-list-words c = let h = sound-header _ (sure (c .before) .ok) in omega arith
 
 list-words-requires : tie.Need-list-words-requires
-list-words-requires c κs = let h = sound-header (t (c .before)) (ok (c .before)) in omega arith
+list-words-requires c κs = let h = sound-header _ (sure (c .before) .ok) in omega arith
 
 same-length-2 : tie.Need-same-length-2
 same-length-2 c = search needs
@@ -71,7 +57,7 @@ same-length-2 c = search needs
 returns-2 : tie.Need-returns-2
 returns-2 c =
     let b = c .before .before .before in
-    refuses (t b) (call b) ListTooShort 1 (rule b, tt) (too-short (t b) (list b) _ (c .before .list-words .ensures) (c .if2 .taken)) refl
+    refuses _ _ ListTooShort 1 (sure b .rule, tt) (too-short (t b) (list b) _ (c .before .list-words .ensures) (c .if2 .taken)) refl
 
 to-seconds-requires : tie.Need-to-seconds-requires
 to-seconds-requires c κs = search needs
@@ -88,18 +74,18 @@ same-length-3 c = search needs
 returns-3 : tie.Need-returns-3
 returns-3 c =
     let d = c .before .before .before in
-    let b = sure d in
-    refuses (t b) (call b) InvalidClock 2 (rule b, (not-short (t b) (list b) (long d), tt))
+    let b = found d in
+    refuses _ _ InvalidClock 2 (sure b .rule, (not-short (t b) (list b) (long d), tt))
     (not-valid _ (c .before .before .to-seconds .ensures) (c .enum-told .given .1)) refl
 
 set-clock-requires : tie.Need-set-clock-requires
-set-clock-requires c κs = sound-holds _ (ok (sure (c .before .before .before .before .before)))
+set-clock-requires c κs = sound-holds _ (sure (found (c .before .before .before .before .before)) .ok)
 
 fire-requires : tie.Need-fire-requires
 fire-requires c κs =
     let moved = c .before .before .before .before in
     let d = moved .before .before .before .before .before .before in
-    moved-room _ _ (ok (sure d)) (long d) _ (moved .set-clock .ensures) _ _
+    moved-room _ _ (sure (found d) .ok) (long d) _ (moved .set-clock .ensures) _ _
 
 same-length-4 : tie.Need-same-length-4
 same-length-4 c = search needs
@@ -113,12 +99,12 @@ returns-4 c =
     let moved = fired .before .before .before .before .before in
     let told = moved .before .before .before in
     let d = told .before .before .before in
-    let b = sure d in
+    let b = found d in
     let to = told .before .before .to-seconds .ensures in
     let got = told .second .given .1 in
     set-clock-done (t b) _ (list b) _ _ _ _
-    (rule b, (not-short (t b) (list b) (long d), (is-valid _ _ to got, tt))) (second-is _ _ to got)
-    (moved-is _ _ (ok b) (long d) _ (moved .set-clock .ensures) (fired .fire .ensures))
+    (sure b .rule, (not-short (t b) (list b) (long d), (is-valid _ _ to got, tt))) (second-is _ _ to got)
+    (moved-is _ _ (sure b .ok) (long d) _ (moved .set-clock .ensures) (fired .fire .ensures))
 
 pub set-clock-spec : {M : Type 1} → statement M
 set-clock-spec =
