@@ -28,7 +28,7 @@ module _ (t : List ℕ) (c : Call) where
       → getD (rules t c) k noRule .number ≡ numberOf s → refused (numberOf s) t c ≡ outcome t c
   refuses s k before now number = sym (refused-by t c s (status-is t c ∙ first-given (rules t c) k before now ∙ number))
 
-  pub accepts : All (λ r. r .given ≡ false) (rules t c) → accepted t c ≡ outcome t c
+  accepts : All (λ r. r .given ≡ false) (rules t c) → accepted t c ≡ outcome t c
   accepts none = sym (outcome-accepted t c (status-is t c ∙ none-given (rules t c) none))
 
   -- answer, table and list as the call leaves them
@@ -48,17 +48,6 @@ pub record Tested (t : List ℕ) : Type 0 where
 
 pub tested : {t : List ℕ} {r : Bool} → r ≡ sound t → not r ≡ false → Tested t
 tested {t} {r} e n = record { ok = sym e ∙ not-false r n; rule = not-same e n }
-
--- the tests of soundness, as the first rule has them
-module _ (t : List ℕ) (r : Bool) (e : r ≡ sound t) where
-  pub unsound : not r ≡ true → not (sound t) ≡ true
-  unsound n = ap not (sym e) ∙ n
-
-  pub sound-rule : not r ≡ false → not (sound t) ≡ false
-  sound-rule n = ap not (sym e) ∙ n
-
-  pub sound-now : not r ≡ false → sound t ≡ true
-  sound-now n = sym e ∙ not-false r n
 
 -- a table that a call only looks at
 pub same-table : (t : List ℕ) → sound t ≡ true → t ≡ over (read t) t

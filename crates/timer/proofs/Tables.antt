@@ -3,7 +3,7 @@
 use mathlib.Core.Path.{_≡_, refl, sym, ap, ap₂, _∙_, subst}
 use Prim.Native.Nat.{ℕ, zero, suc, _+_, _*_, _≤_}
 use native.Mathlib.Omega.{arith}
-use mathlib.Core.Bool.{Bool, true, false, not}
+use mathlib.Core.Bool.{true, false, not}
 use mathlib.Core.List.{List, [], _∷_, _++_}
 use lib.ListN.{length, set, drop, replicate, length-replicate}
 use lib.Dec.{eqb}
@@ -20,8 +20,8 @@ use Rattle.model.proofs.ReadBack.{slots-length, read-back, over-over, over-hold
 use Rattle.model.proofs.SoundHolds.{sound-holds, sound-header}
 use Rattle.model.proofs.Steps.{chained-stopped, length-stopped, length-stored}
 use Rattle.links.specs.Places.{InTable}
-use Rattle.slots.specs.Search.{lowestWith, namedSlot}
-use Rattle.slots.proofs.Laws.{free-found, named-some, named-none}
+use Rattle.slots.specs.Search.{namedSlot}
+use Rattle.slots.proofs.Laws.{named-some, named-none}
 
 -- ---- the slot that an id names
 
@@ -41,38 +41,16 @@ named {t} {id} {i} ok e some =
       inside = omega (arith, sound-header t ok .long, m .high);
     }
 
-pub none-named : (t : List ℕ) (id : ℕ) {i : ℕ} → i ≡ namedSlot t id → i ≡ 0 → not (names (read t) id) ≡ true
-none-named t id {i} e z = ap not (named-none t id i e z)
+pub unknown : (t : List ℕ) (id : ℕ) {i : ℕ} → i ≡ namedSlot t id → i ≡ 0 → not (names (read t) id) ≡ true
+unknown t id {i} e z = ap not (named-none t id i e z)
 
 -- what was done at the slot was done at the id's index
 pub at-index : {t : List ℕ} {id i : ℕ} (f : ℕ → State) {u : List ℕ} → Named t id i → u ≡ over (f i) t → u ≡ over (f (indexOf id)) t
 at-index {t} f at e = e ∙ ap (λ (k : ℕ). over (f k) t) (at .index)
 
--- ---- a slot of a sound table
+-- ---- create and delete, on a sound table
 
 module _ (t : List ℕ) (ok : sound t ≡ true) where
-  pub inside : (i : ℕ) → i ≤ word t 0 → 8 * i + 10 ≤ length t
-  inside i h = omega (arith, sound-header t ok .long)
-
-  module _ (id i : ℕ) (e : i ≡ namedSlot t id) where
-    pub unknown : i ≡ 0 → not (names (read t) id) ≡ true
-    unknown z = ap not (named-none t id i e z)
-
-    module _ (some : i ≡ 0 → ⊥) where
-      pub known : not (names (read t) id) ≡ false
-      known = ap not (named-some t id i e some .names-one)
-
-      pub index-is : i ≡ indexOf id
-      index-is = named-some t id i e some .index
-
-      pub in-table : InTable t i
-      in-table = let m = named-some t id i e some in record { holds = sound-holds t ok; low = m .low; high = m .high }
-
-      pub named-inside : 8 * i + 10 ≤ length t
-      named-inside = inside i (named-some t id i e some .high)
-
-  -- ---- create
-
   module _ {i : ℕ} (is : lowestFree (read t) ≡ i) where
     pub free-in-table : (i ≡ 0 → ⊥) → InTable t i
     free-in-table some =
@@ -82,38 +60,36 @@ module _ (t : List ℕ) (ok : sound t ≡ true) where
     pub created-is : {u : List ℕ} (name : ℕ) → u ≡ over (stored (read t) i (unused name)) t → u ≡ over (stored (read t) (lowestFree (read t)) (unused name)) t
     created-is name h = h ∙ ap (λ (k : ℕ). over (stored (read t) k (unused name)) t) (sym is)
 
-  -- ---- delete
-
   module _ (i : ℕ) (at : InTable t i) (u : List ℕ) (e : u ≡ over (stopped (read t) i (idled (slotAt (read t .slots) i))) t) where
-    x : Slot
+    abbrev x : Slot
     x = idled (slotAt (read t .slots) i)
 
-    stopped-holds : Holds u (stopped (read t) i (idled (slotAt (read t .slots) i)))
+    abbrev s : State
+    s = stopped (read t) i x
+
+    stopped-holds : Holds u s
     stopped-holds =
-        let s = stopped (read t) i (idled (slotAt (read t .slots) i)) in
         subst (λ (v : List ℕ). Holds v s) (sym e)
         (over-holds t (read t) s (sound-holds t ok)
-        (chained-stopped (read t) (sound-holds t ok .chained) i (idled (slotAt (read t .slots) i)) (at .low) (omega (arith, at .high, slots-length t))
+        (chained-stopped (read t) (sound-holds t ok .chained) i x (at .low) (omega (arith, at .high, slots-length t))
         (λ k. idle-not-waiting k (slotAt (read t .slots) i .kind)))
-        (length-stopped (read t) i (idled (slotAt (read t .slots) i))) refl)
+        (length-stopped (read t) i x) refl)
 
-    stopped-read : read u ≡ stopped (read t) i (idled (slotAt (read t .slots) i))
-    stopped-read = read-back u (stopped (read t) i (idled (slotAt (read t .slots) i))) stopped-holds
+    stopped-read : read u ≡ s
+    stopped-read = read-back u s stopped-holds
 
     pub still-in-table : InTable u i
     still-in-table =
         let n : word u 0 ≡ word t 0 =
-        sym (slots-length u) ∙ ap (λ (s : State). length (s .slots)) stopped-read
-        ∙ length-stopped (read t) i (idled (slotAt (read t .slots) i)) ∙ slots-length t in
+        sym (slots-length u) ∙ ap (λ (r : State). length (r .slots)) stopped-read ∙ length-stopped (read t) i x ∙ slots-length t in
         record { holds = subst (Holds u) (sym stopped-read) stopped-holds; low = at .low; high = omega (arith, at .high, n) }
 
     pub deleted-is : (v : List ℕ) → v ≡ over (stored (read u) i free) u → v ≡ over (stopped (read t) i free) t
     deleted-is v h =
-        let s = stopped (read t) i (idled (slotAt (read t .slots) i)) in
         h ∙ ap₂ (λ (r : State) (w : List ℕ). over (stored r i free) w) stopped-read e
         ∙ over-over s (stored s i free) t (length-stored s i free)
-        ∙ ap (λ (sl : List Slot). over (rechain ByTicks (rechain ByDate (read t) sl (without i (read t .dated))) sl (without i (read t .ticking))) t)
-        (put-put (read t .slots) i (idled (slotAt (read t .slots) i)) free)
+        ∙ ap (λ (l : List Slot). over (rechain ByTicks (rechain ByDate (read t) l (without i (read t .dated))) l (without i (read t .ticking))) t)
+        (put-put (read t .slots) i x free)
 
 -- ---- lay out
 
@@ -141,10 +117,3 @@ laid-is w u n t e =
     ap (λ (l : List ℕ). set (set l 0 n) 1 t) e
     ∙ sym (laid-words (length w) n t (drop (10 + 8 * n) w))
     ∙ ap (λ (k : ℕ). write (laidOut (length w) n t) (drop (10 + 8 * k) w)) (sym (length-replicate n free))
-
--- its limits, as they were tested
-pub outside-limits : {r b : Bool} → r ≡ b → not r ≡ true → not b ≡ true
-outside-limits e n = ap not (sym e) ∙ n
-
-pub inside-limits : {r b : Bool} → r ≡ b → not r ≡ false → not b ≡ false
-inside-limits e n = ap not (sym e) ∙ n

@@ -6,7 +6,7 @@ use Prim.Native.Nat.{ℕ}
 use Rattle.model.specs.declared.Status.the-variants.{InvalidId, NotSound}
 use Rattle.links.proofs.Restart.{stoppedAt}
 use Rattle.timer.proofs.Replies.{Tested, tested, not-same, refuses, done}
-use Rattle.timer.proofs.Tables.{Named, named, none-named, at-index}
+use Rattle.timer.proofs.Tables.{Named, named, unknown, at-index}
 use Rattle.timer.proofs.cancel.Statement.{statement}
 use Rattle.timer.proofs.cancel.Tie as tie
 
@@ -44,7 +44,7 @@ same-length-2 : tie.Need-same-length-2
 same-length-2 c = search needs
 
 returns-2 : tie.Need-returns-2
-returns-2 c = refuses _ _ InvalidId 1 (sure (c .before .before .before) .rule, tt) (none-named _ _ (c .before .named .ensures) (c .if2 .taken)) refl
+returns-2 c = refuses _ _ InvalidId 1 (sure (c .before .before .before) .rule, tt) (unknown _ _ (c .before .named .ensures) (c .if2 .taken)) refl
 
 stop-requires : tie.Need-stop-requires
 stop-requires c κs = at (c .before) .place

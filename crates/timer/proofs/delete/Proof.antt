@@ -8,7 +8,7 @@ use Rattle.model.specs.State.{free}
 use Rattle.model.specs.Directives.{stopped}
 use Rattle.model.specs.Words.{read}
 use Rattle.timer.proofs.Replies.{Tested, tested, not-same, refuses, done}
-use Rattle.timer.proofs.Tables.{Named, named, none-named, at-index, still-in-table, deleted-is}
+use Rattle.timer.proofs.Tables.{Named, named, unknown, at-index, still-in-table, deleted-is}
 use Rattle.timer.proofs.delete.Statement.{statement}
 use Rattle.timer.proofs.delete.Tie as tie
 
@@ -46,7 +46,7 @@ same-length-2 : tie.Need-same-length-2
 same-length-2 c = search needs
 
 returns-2 : tie.Need-returns-2
-returns-2 c = refuses _ _ InvalidId 1 (sure (c .before .before .before) .rule, tt) (none-named _ _ (c .before .named .ensures) (c .if2 .taken)) refl
+returns-2 c = refuses _ _ InvalidId 1 (sure (c .before .before .before) .rule, tt) (unknown _ _ (c .before .named .ensures) (c .if2 .taken)) refl
 
 stop-requires : tie.Need-stop-requires
 stop-requires c κs = at (c .before) .place

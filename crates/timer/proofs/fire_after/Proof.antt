@@ -10,7 +10,7 @@ use Rattle.model.specs.declared.Status.the-variants.{InvalidId, InvalidAddress,
 use Rattle.model.specs.Directives.{started}
 use Rattle.model.specs.Words.{read}
 use Rattle.timer.proofs.Replies.{Tested, tested, not-same, refuses, done}
-use Rattle.timer.proofs.Tables.{Named, named, none-named, at-index}
+use Rattle.timer.proofs.Tables.{Named, named, unknown, at-index}
 use Rattle.timer.proofs.fire_after.Statement.{statement}
 use Rattle.timer.proofs.fire_after.Tie as tie
 
@@ -63,7 +63,7 @@ returns-4 : tie.Need-returns-4
 returns-4 c =
     let used = c .before .before .before in
     refuses _ _ InvalidId 3 (sure (used .before .before) .rule, (ne-eqb _ 0 (used .before .if2 .left), (ne-eqb _ 0 (used .if3 .left), tt)))
-    (none-named _ _ (c .before .named .ensures) (c .if4 .taken)) refl
+    (unknown _ _ (c .before .named .ensures) (c .if4 .taken)) refl
 
 start-requires : tie.Need-start-requires
 start-requires c κs = (at (c .before) .place, omega arith)

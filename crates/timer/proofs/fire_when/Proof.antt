@@ -12,7 +12,7 @@ use Rattle.model.specs.Directives.{notAhead}
 use Rattle.model.specs.Words.{word, read}
 use Rattle.model.proofs.SoundHolds.{sound-header}
 use Rattle.timer.proofs.Replies.{Tested, tested, not-same, refuses, done}
-use Rattle.timer.proofs.Tables.{Named, named, none-named}
+use Rattle.timer.proofs.Tables.{Named, named, unknown}
 use Rattle.timer.proofs.Clocks.{clock-unset, clock-running, not-a-date, past-date, later-date, dated-is}
 use Rattle.timer.proofs.fire_when.Statement.{statement}
 use Rattle.timer.proofs.fire_when.Tie as tie
@@ -128,7 +128,7 @@ returns-6 c =
     let y = c .before .before .before in
     let x = ready (told y) in
     refuses _ _ InvalidId 4 (sure (b y) .rule, (set x, (used x, (later y (omega (arith, y .if4 .left)), tt))))
-    (none-named _ _ (c .before .named .ensures) (c .if5 .taken)) refl
+    (unknown _ _ (c .before .named .ensures) (c .if5 .taken)) refl
 
 start-requires : tie.Need-start-requires
 start-requires c κs = (at (c .before) .place, tt)

@@ -4,14 +4,13 @@ use Rattle.slots.proofs.Laws.{clear-length}
 use borrow.Author.Tests.{le-ltb, lt-ltb}
 use mathlib.Core.List.{[], _∷_}
 use mathlib.Core.Path.{refl}
-use Prim.Native.Nat.{ℕ, _+_}
+use Prim.Native.Nat.{ℕ, _+_, _*_}
 use native.Mathlib.Omega.{arith}
 use Rattle.model.specs.declared.Status.the-variants.{InvalidSize, InvalidNumber}
 use Rattle.model.specs.Calls.{layOut}
-use Rattle.timer.proofs.Replies.{refuses, done}
+use Rattle.timer.proofs.Replies.{not-same, refuses, done}
 use lib.ListN.{length}
-use Prim.Native.Nat.{_*_}
-use Rattle.timer.proofs.Tables.{outside-limits, inside-limits, laid-is}
+use Rattle.timer.proofs.Tables.{laid-is}
 use Rattle.timer.proofs.lay_out.Statement.{statement}
 use Rattle.timer.proofs.lay_out.Tie as tie
 
@@ -22,7 +21,7 @@ returns : tie.Need-returns
 returns c =
     let a = c .before .before .before .args in
     let t = a .table .now in
-    refuses t (layOut (a .slots) (a .rate)) InvalidNumber 0 tt (outside-limits (c .before .within-limits .ensures) (c .if1 .taken)) refl
+    refuses t (layOut (a .slots) (a .rate)) InvalidNumber 0 tt (not-same (c .before .within-limits .ensures) (c .if1 .taken)) refl
 
 mul-words : tie.Need-mul-words
 mul-words c = search needs
@@ -34,7 +33,7 @@ returns-2 : tie.Need-returns-2
 returns-2 c =
     let a = c .before .before .before .before .args in
     let t = a .table .now in
-    refuses t (layOut (a .slots) (a .rate)) InvalidSize 1 (inside-limits (c .before .before .within-limits .ensures) (c .before .if1 .left), tt)
+    refuses t (layOut (a .slots) (a .rate)) InvalidSize 1 (not-same (c .before .before .within-limits .ensures) (c .before .if1 .left), tt)
     (lt-ltb (length t) (10 + 8 * a .slots) (omega (arith, c .if2 .taken))) refl
 
 clear-requires : tie.Need-clear-requires
@@ -60,7 +59,7 @@ returns-3 c =
     let limits = room .before in
     let a = limits .before .before .before .args in
     let t = a .table .now in
-    let inside = inside-limits (limits .before .within-limits .ensures) (limits .if1 .left) in
+    let inside = not-same (limits .before .within-limits .ensures) (limits .if1 .left) in
     done t (layOut (a .slots) (a .rate)) (0 ∷ []) _ []
     (inside, (le-ltb (length t) (10 + 8 * a .slots) (room .if2 .left), tt)) refl
     (laid-is t _ (a .slots) (a .rate) (c .before .before .clear .ensures)) refl

@@ -6,7 +6,7 @@ use Prim.Native.Nat.{ℕ}
 use native.Mathlib.Omega.{arith}
 use Rattle.model.specs.declared.Status.the-variants.{InvalidId, NotDefined, NotSound}
 use Rattle.timer.proofs.Replies.{Tested, tested, not-same, refuses, done}
-use Rattle.timer.proofs.Tables.{Named, named, none-named}
+use Rattle.timer.proofs.Tables.{Named, named, unknown}
 use Rattle.timer.proofs.SlotWords.{timed, reset-is}
 use Rattle.timer.proofs.reset.Statement.{statement}
 use Rattle.timer.proofs.reset.Tie as tie
@@ -45,7 +45,7 @@ same-length-2 : tie.Need-same-length-2
 same-length-2 c = search needs
 
 returns-2 : tie.Need-returns-2
-returns-2 c = refuses _ _ InvalidId 1 (sure (c .before .before .before) .rule, tt) (none-named _ _ (c .before .named .ensures) (c .if2 .taken)) refl
+returns-2 c = refuses _ _ InvalidId 1 (sure (c .before .before .before) .rule, tt) (unknown _ _ (c .before .named .ensures) (c .if2 .taken)) refl
 
 get-requires : tie.Need-get-requires
 get-requires c κs = (omega arith, at (c .before) .inside)

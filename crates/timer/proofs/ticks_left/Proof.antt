@@ -6,7 +6,7 @@ use Prim.Native.Nat.{ℕ}
 use native.Mathlib.Omega.{arith}
 use Rattle.model.specs.declared.Status.the-variants.{InvalidId, NotSound}
 use Rattle.timer.proofs.Replies.{Tested, tested, not-same, refuses, done, same-table}
-use Rattle.timer.proofs.Tables.{Named, named, none-named}
+use Rattle.timer.proofs.Tables.{Named, named, unknown}
 use Rattle.timer.proofs.SlotWords.{no-ticks, ticks-met, some-ticks}
 use Rattle.timer.proofs.ticks_left.Statement.{statement}
 use Rattle.timer.proofs.ticks_left.Tie as tie
@@ -39,7 +39,7 @@ named-requires : tie.Need-named-requires
 named-requires c κs = sure c .ok
 
 returns-2 : tie.Need-returns-2
-returns-2 c = refuses _ _ InvalidId 1 (sure (c .before .before) .rule, tt) (none-named _ _ (c .before .named .ensures) (c .if2 .taken)) refl
+returns-2 c = refuses _ _ InvalidId 1 (sure (c .before .before) .rule, tt) (unknown _ _ (c .before .named .ensures) (c .if2 .taken)) refl
 
 get-requires : tie.Need-get-requires
 get-requires c κs = (omega arith, at c .inside)
