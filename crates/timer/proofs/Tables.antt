@@ -60,7 +60,7 @@ module _ (t : List ℕ) (ok : sound t ≡ true) where
     pub created-is : {u : List ℕ} (name : ℕ) → u ≡ over (stored (read t) i (unused name)) t → u ≡ over (stored (read t) (lowestFree (read t)) (unused name)) t
     created-is name h = h ∙ ap (λ (k : ℕ). over (stored (read t) k (unused name)) t) (sym is)
 
-  module _ (i : ℕ) (at : InTable t i) (u : List ℕ) (e : u ≡ over (stopped (read t) i (idled (slotAt (read t .slots) i))) t) where
+  module _ {i : ℕ} (at : InTable t i) {u : List ℕ} (e : u ≡ over (stopped (read t) i (idled (slotAt (read t .slots) i))) t) where
     abbrev x : Slot
     x = idled (slotAt (read t .slots) i)
 
@@ -84,8 +84,8 @@ module _ (t : List ℕ) (ok : sound t ≡ true) where
         sym (slots-length u) ∙ ap (λ (r : State). length (r .slots)) stopped-read ∙ length-stopped (read t) i x ∙ slots-length t in
         record { holds = subst (Holds u) (sym stopped-read) stopped-holds; low = at .low; high = omega (arith, at .high, n) }
 
-    pub deleted-is : (v : List ℕ) → v ≡ over (stored (read u) i free) u → v ≡ over (stopped (read t) i free) t
-    deleted-is v h =
+    pub deleted-is : {v : List ℕ} → v ≡ over (stored (read u) i free) u → v ≡ over (stopped (read t) i free) t
+    deleted-is h =
         h ∙ ap₂ (λ (r : State) (w : List ℕ). over (stored r i free) w) stopped-read e
         ∙ over-over s (stored s i free) t (length-stored s i free)
         ∙ ap (λ (l : List Slot). over (rechain ByTicks (rechain ByDate (read t) l (without i (read t .dated))) l (without i (read t .ticking))) t)
@@ -97,7 +97,10 @@ module _ (room n t : ℕ) (rest : List ℕ) where
   free-words : (s : State) → s .ticking ≡ [] → s .dated ≡ [] → (i m : ℕ) → allSlots s i (replicate m free) rest ≡ replicate (8 * m) 0 ++ rest
   free-words s a b i zero = refl
   free-words s a b i (suc m) =
-      ap₂ (λ (p q : List Link). slotWords (record { room = s .room; slots = s .slots; clock = s .clock; ticking = p; dated = q }) i free (allSlots s (suc i) (replicate m free) rest)) a b
+      ap₂
+      (λ (p q : List Link).
+      slotWords (record { room = s .room; slots = s .slots; clock = s .clock; ticking = p; dated = q }) i free (allSlots s (suc i) (replicate m free) rest))
+      a b
       ∙ ap {B = List ℕ} (λ (l : List ℕ). 0 ∷ 0 ∷ 0 ∷ 0 ∷ 0 ∷ 0 ∷ 0 ∷ 0 ∷ l) (free-words s a b (suc i) m)
       ∙ ap (λ (k : ℕ). replicate k 0 ++ rest) eight
     where
@@ -106,7 +109,8 @@ module _ (room n t : ℕ) (rest : List ℕ) where
 
   laid-words : write (laidOut room n t) rest ≡ set (set (replicate (10 + 8 * n) 0 ++ rest) 0 n) 1 t
   laid-words =
-      ap₂ {C = List ℕ} (λ (k : ℕ) (l : List ℕ). k ∷ t ∷ 0 ∷ 0 ∷ 0 ∷ 0 ∷ 0 ∷ 0 ∷ 0 ∷ 0 ∷ l) (length-replicate n free) (free-words (laidOut room n t) refl refl 1 n)
+      ap₂ {C = List ℕ} (λ (k : ℕ) (l : List ℕ). k ∷ t ∷ 0 ∷ 0 ∷ 0 ∷ 0 ∷ 0 ∷ 0 ∷ 0 ∷ 0 ∷ l) (length-replicate n free)
+      (free-words (laidOut room n t) refl refl 1 n)
       ∙ ap (λ (k : ℕ). set (set (replicate k 0 ++ rest) 0 n) 1 t) ten
     where
       ten : suc (suc (suc (suc (suc (suc (suc (suc (suc (suc (8 * n)))))))))) ≡ 10 + 8 * n

@@ -54,7 +54,7 @@ stop-requires c κs = at (c .before) .place
 store-requires : tie.Need-store-requires
 store-requires c κs =
     let d = c .before .before .before .before .before in
-    still-in-table _ (sure (found d) .ok) _ (at d .place) _ (c .before .before .before .stop .ensures)
+    still-in-table _ (sure (found d) .ok) (at d .place) (c .before .before .before .stop .ensures)
 
 same-length-3 : tie.Need-same-length-3
 same-length-3 c = search needs
@@ -66,7 +66,7 @@ returns-3 c =
     let b = found d in
     done _ _ (0 ∷ []) _ [] (sure b .rule, (at d .rule, tt)) refl
     (at-index (λ k. stopped (read (t b)) k free) (at d)
-    (deleted-is (t b) (sure b .ok) _ (at d .place) _ (stop .stop .ensures) _ (c .before .before .store .ensures))) refl
+    (deleted-is (t b) (sure b .ok) (at d .place) (stop .stop .ensures) (c .before .before .store .ensures))) refl
 
 pub delete-spec : {M : Type 1} → statement M
 delete-spec =

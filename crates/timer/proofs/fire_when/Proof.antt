@@ -84,7 +84,8 @@ same-length-3 c = search needs
 
 returns-3 : tie.Need-returns-3
 returns-3 c =
-    refuses _ _ InvalidAddress 2 (sure (c .before .before .before) .rule, (clock-running (t (c .before .before .before)) (c .before .if2 .left), tt)) (eq-eqb _ 0 (c .if3 .taken)) refl
+    let b = c .before .before .before in
+    refuses _ _ InvalidAddress 2 (sure b .rule, (clock-running (t b) (c .before .if2 .left), tt)) (eq-eqb _ 0 (c .if3 .taken)) refl
 
 to-seconds-requires : tie.Need-to-seconds-requires
 to-seconds-requires c κs = search needs

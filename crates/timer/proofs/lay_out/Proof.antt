@@ -1,15 +1,14 @@
 -- `timer::lay_out` meets its contract: the words cleared, with N and T in front, are those of the table laid out. Assumes nothing.
 use borrow.Author.Needs.{needs, below-set}
-use Rattle.slots.proofs.Laws.{clear-length}
 use borrow.Author.Tests.{le-ltb, lt-ltb}
 use mathlib.Core.List.{[], _∷_}
 use mathlib.Core.Path.{refl}
 use Prim.Native.Nat.{ℕ, _+_, _*_}
 use native.Mathlib.Omega.{arith}
-use Rattle.model.specs.declared.Status.the-variants.{InvalidSize, InvalidNumber}
-use Rattle.model.specs.Calls.{layOut}
-use Rattle.timer.proofs.Replies.{not-same, refuses, done}
 use lib.ListN.{length}
+use Rattle.model.specs.declared.Status.the-variants.{InvalidSize, InvalidNumber}
+use Rattle.slots.proofs.Laws.{clear-length}
+use Rattle.timer.proofs.Replies.{not-same, refuses, done}
 use Rattle.timer.proofs.Tables.{laid-is}
 use Rattle.timer.proofs.lay_out.Statement.{statement}
 use Rattle.timer.proofs.lay_out.Tie as tie
@@ -18,10 +17,7 @@ within-limits-requires : tie.Need-within-limits-requires
 within-limits-requires c κs = search needs
 
 returns : tie.Need-returns
-returns c =
-    let a = c .before .before .before .args in
-    let t = a .table .now in
-    refuses t (layOut (a .slots) (a .rate)) InvalidNumber 0 tt (not-same (c .before .within-limits .ensures) (c .if1 .taken)) refl
+returns c = refuses _ _ InvalidNumber 0 tt (not-same (c .before .within-limits .ensures) (c .if1 .taken)) refl
 
 mul-words : tie.Need-mul-words
 mul-words c = search needs
@@ -32,9 +28,8 @@ add-words c = search needs
 returns-2 : tie.Need-returns-2
 returns-2 c =
     let a = c .before .before .before .before .args in
-    let t = a .table .now in
-    refuses t (layOut (a .slots) (a .rate)) InvalidSize 1 (not-same (c .before .before .within-limits .ensures) (c .before .if1 .left), tt)
-    (lt-ltb (length t) (10 + 8 * a .slots) (omega (arith, c .if2 .taken))) refl
+    refuses _ _ InvalidSize 1 (not-same (c .before .before .within-limits .ensures) (c .before .if1 .left), tt)
+    (lt-ltb (length (a .table .now)) (10 + 8 * a .slots) (omega (arith, c .if2 .taken))) refl
 
 clear-requires : tie.Need-clear-requires
 clear-requires c κs = search needs
@@ -56,12 +51,10 @@ same-length c = search needs
 returns-3 : tie.Need-returns-3
 returns-3 c =
     let room = c .before .before .before .before in
-    let limits = room .before in
-    let a = limits .before .before .before .args in
+    let a = room .before .before .before .before .args in
     let t = a .table .now in
-    let inside = not-same (limits .before .within-limits .ensures) (limits .if1 .left) in
-    done t (layOut (a .slots) (a .rate)) (0 ∷ []) _ []
-    (inside, (le-ltb (length t) (10 + 8 * a .slots) (room .if2 .left), tt)) refl
+    let inside = not-same (room .before .before .within-limits .ensures) (room .before .if1 .left) in
+    done _ _ (0 ∷ []) _ [] (inside, (le-ltb (length t) (10 + 8 * a .slots) (room .if2 .left), tt)) refl
     (laid-is t _ (a .slots) (a .rate) (c .before .before .clear .ensures)) refl
 
 pub lay-out-spec : {M : Type 1} → statement M
