@@ -36,21 +36,21 @@ module _ (t : List ℕ) where
   pub in-calendar : {d : Date} → sound t ≡ true → d ≡ dateAnswer (word t 3) → d ≡ PastTheLast → ⊥
   in-calendar ok e p = omega (arith, past-answer (word t 3) e p, sound-header t ok .second-high)
 
-  pub time-now : {d : Date} (w : WallTime) → d ≡ dateAnswer (word t 3) → d ≡ On w → numbers w (word t 4) ≡ numbers (dateOf (word t 3)) (word t 4)
-  time-now w e p = ap (λ (x : WallTime). numbers x (word t 4)) (on-answer (word t 3) w e p .is)
+  pub time-now : {d : Date} {w : WallTime} → d ≡ dateAnswer (word t 3) → d ≡ On w → numbers w (word t 4) ≡ numbers (dateOf (word t 3)) (word t 4)
+  time-now {w = w} e p = ap (λ (x : WallTime). numbers x (word t 4)) (on-answer (word t 3) w e p .is)
 
   -- ---- fire when
 
   pub not-a-date : (w : WallTime) {i : Instant} → i ≡ instantOf w → i ≡ NotValid → notAhead (read t) w ≡ true
   not-a-date w e n = ap (λ (b : Bool). not (b && ltb (word t 3) (secondsOf w))) (not-valid-answer w e n)
 
-  pub past-date : (w : WallTime) (s : ℕ) {i : Instant} → i ≡ instantOf w → i ≡ Second s → s ≤ word t 3 → notAhead (read t) w ≡ true
-  past-date w s e n h =
+  pub past-date : (w : WallTime) {s : ℕ} {i : Instant} → i ≡ instantOf w → i ≡ Second s → s ≤ word t 3 → notAhead (read t) w ≡ true
+  past-date w {s} e n h =
       let a = second-answer w s e n in
       ap₂ (λ (b c : Bool). not (b && c)) (a .is-valid) (le-ltb (word t 3) (secondsOf w) (omega (arith, a .is)))
 
-  pub later-date : (w : WallTime) (s : ℕ) {i : Instant} → i ≡ instantOf w → i ≡ Second s → word t 3 < s → notAhead (read t) w ≡ false
-  later-date w s e n h =
+  pub later-date : (w : WallTime) {s : ℕ} {i : Instant} → i ≡ instantOf w → i ≡ Second s → word t 3 < s → notAhead (read t) w ≡ false
+  later-date w {s} e n h =
       let a = second-answer w s e n in
       ap₂ (λ (b c : Bool). not (b && c)) (a .is-valid) (lt-ltb (word t 3) (secondsOf w) (omega (arith, a .is)))
 
@@ -63,11 +63,11 @@ module _ (t : List ℕ) where
 pub not-valid : (w : WallTime) {i : Instant} → i ≡ instantOf w → i ≡ NotValid → not (valid w) ≡ true
 not-valid w e n = ap not (not-valid-answer w e n)
 
-pub is-valid : (w : WallTime) (s : ℕ) {i : Instant} → i ≡ instantOf w → i ≡ Second s → not (valid w) ≡ false
-is-valid w s e n = ap not (second-answer w s e n .is-valid)
+pub is-valid : (w : WallTime) {s : ℕ} {i : Instant} → i ≡ instantOf w → i ≡ Second s → not (valid w) ≡ false
+is-valid w {s} e n = ap not (second-answer w s e n .is-valid)
 
-pub second-is : (w : WallTime) (s : ℕ) {i : Instant} → i ≡ instantOf w → i ≡ Second s → s ≡ secondsOf w
-second-is w s e n = second-answer w s e n .is
+pub second-is : (w : WallTime) {s : ℕ} {i : Instant} → i ≡ instantOf w → i ≡ Second s → s ≡ secondsOf w
+second-is w {s} e n = second-answer w s e n .is
 
 -- it fires the dated timers, up to the second given
 pub set-clock-done : (t : List ℕ) (w : WallTime) (list : List ℕ) (s m : ℕ) (u list′ : List ℕ) → All (λ r. r .given ≡ false) (rules t (setClock w list))

@@ -11,11 +11,11 @@ use Rattle.model.specs.Words.{word, read}
 use Rattle.model.proofs.ReadBack.{slots-length}
 
 module _ (t list : List ℕ) where
-  pub too-short : (n : ℕ) → n ≡ 3 * word t 0 → length list < n → isShort (read t) list ≡ true
-  too-short n e h = lt-ltb (length list) (3 * length (read t .slots)) (omega (arith, slots-length t))
+  pub too-short : {n : ℕ} → n ≡ 3 * word t 0 → length list < n → isShort (read t) list ≡ true
+  too-short e h = lt-ltb (length list) (3 * length (read t .slots)) (omega (arith, slots-length t))
 
-  pub long-enough : (n : ℕ) → n ≡ 3 * word t 0 → n ≤ length list → 3 * word t 0 ≤ length list
-  long-enough n e h = omega arith
+  pub long-enough : {n : ℕ} → n ≡ 3 * word t 0 → n ≤ length list → 3 * word t 0 ≤ length list
+  long-enough e h = omega arith
 
   pub not-short : 3 * word t 0 ≤ length list → isShort (read t) list ≡ false
   not-short h = le-ltb (length list) (3 * length (read t .slots)) (omega (arith, slots-length t))

@@ -49,7 +49,7 @@ module _ (y : tie.Else4) where
   b = tried (ready told)
 
   later : word (t b) 3 < told .date .given .0 .0 → notAhead (read (t b)) (b .before .before .before .before .args .when) ≡ false
-  later = later-date (t b) _ _ (told .before .before .to-seconds .ensures) (told .date .given .1)
+  later = later-date (t b) _ (told .before .before .to-seconds .ensures) (told .date .given .1)
 
 -- ---- the id names a slot
 
@@ -116,7 +116,7 @@ returns-5 c =
     let z = c .before .before .before in
     let x = ready z in
     refuses _ _ InvalidClock 3 (sure (tried x) .rule, (set x, (used x, tt)))
-    (past-date (t (tried x)) _ _ (z .before .before .to-seconds .ensures) (z .date .given .1) (omega (arith, c .if4 .taken))) refl
+    (past-date (t (tried x)) _ (z .before .before .to-seconds .ensures) (z .date .given .1) (omega (arith, c .if4 .taken))) refl
 
 named-requires : tie.Need-named-requires
 named-requires c κs = sure (b (c .before)) .ok

@@ -59,7 +59,7 @@ returns-4 c =
     let set = date .before .before .before .before in
     let b = set .before .before in
     done _ _ _ _ [] (sure b .rule, (clock-running (t b) (set .if2 .left), tt))
-    (time-now (t b) _ (date .before .before .from-seconds .ensures) (date .date .given .1)) (same-table _ (sure b .ok)) refl
+    (time-now (t b) (date .before .before .from-seconds .ensures) (date .date .given .1)) (same-table _ (sure b .ok)) refl
 
 pub get-clock-spec : {M : Type 1} → statement M
 get-clock-spec =

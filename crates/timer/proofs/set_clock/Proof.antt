@@ -32,7 +32,7 @@ abbrev found : tie.Else2 → tie.Else1
 found d = d .before .before .before
 
 long : (d : tie.Else2) → 3 * word (t (found d)) 0 ≤ length (list (found d))
-long d = long-enough (t (found d)) (list (found d)) _ (d .before .list-words .ensures) (d .if2 .left)
+long d = long-enough (t (found d)) (list (found d)) (d .before .list-words .ensures) (d .if2 .left)
 
 -- ---- the needs
 
@@ -57,7 +57,7 @@ same-length-2 c = search needs
 returns-2 : tie.Need-returns-2
 returns-2 c =
     let b = c .before .before .before in
-    refuses _ _ ListTooShort 1 (sure b .rule, tt) (too-short (t b) (list b) _ (c .before .list-words .ensures) (c .if2 .taken)) refl
+    refuses _ _ ListTooShort 1 (sure b .rule, tt) (too-short (t b) (list b) (c .before .list-words .ensures) (c .if2 .taken)) refl
 
 to-seconds-requires : tie.Need-to-seconds-requires
 to-seconds-requires c κs = search needs
@@ -103,7 +103,7 @@ returns-4 c =
     let to = told .before .before .to-seconds .ensures in
     let got = told .second .given .1 in
     set-clock-done (t b) _ (list b) _ _ _ _
-    (sure b .rule, (not-short (t b) (list b) (long d), (is-valid _ _ to got, tt))) (second-is _ _ to got)
+    (sure b .rule, (not-short (t b) (list b) (long d), (is-valid _ to got, tt))) (second-is _ to got)
     (moved-is _ _ (sure b .ok) (long d) _ (moved .set-clock .ensures) (fired .fire .ensures))
 
 pub set-clock-spec : {M : Type 1} → statement M

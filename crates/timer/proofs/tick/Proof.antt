@@ -35,7 +35,7 @@ abbrev found : tie.Else2 → tie.Else1
 found d = d .before .before .before
 
 long : (d : tie.Else2) → 3 * word (t (found d)) 0 ≤ length (list (found d))
-long d = long-enough (t (found d)) (list (found d)) _ (d .before .list-words .ensures) (d .if2 .left)
+long d = long-enough (t (found d)) (list (found d)) (d .before .list-words .ensures) (d .if2 .left)
 
 -- ---- the interval timers came nearer, those due fired, and the clock went on
 
@@ -84,7 +84,7 @@ same-length-2 c = search needs
 returns-2 : tie.Need-returns-2
 returns-2 c =
     let b = c .before .before .before in
-    refuses _ _ ListTooShort 1 (sure b .rule, tt) (too-short (t b) (list b) _ (c .before .list-words .ensures) (c .if2 .taken)) refl
+    refuses _ _ ListTooShort 1 (sure b .rule, tt) (too-short (t b) (list b) (c .before .list-words .ensures) (c .if2 .taken)) refl
 
 come-nearer-requires : tie.Need-come-nearer-requires
 come-nearer-requires c κs = sure (found (c .before)) .ok
