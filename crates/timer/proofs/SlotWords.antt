@@ -54,5 +54,5 @@ module _ {t : List ℕ} {id i : ℕ} (at : Named t id i) where
   pub ticks-met : field t 0 i ≡ 4 → 0 < timesIn (read t .ticking) i
   ticks-met k = omega (arith, meets ∙ ap (λ (b : Bool). cond b 1 0) (eq-eqb (field t 0 i) 4 k))
 
-  pub some-ticks : (r : ℕ) → r ≡ waitAt i (read t .ticking) → _≡_ {A = List ℕ} (r ∷ []) (waitAt (indexOf id) (read t .ticking) ∷ [])
-  some-ticks r h = ap {B = List ℕ} (λ (m : ℕ). m ∷ []) (h ∙ ap (λ (j : ℕ). waitAt j (read t .ticking)) (at .index))
+  pub some-ticks : {r : ℕ} → r ≡ waitAt i (read t .ticking) → _≡_ {A = List ℕ} (r ∷ []) (waitAt (indexOf id) (read t .ticking) ∷ [])
+  some-ticks h = ap {B = List ℕ} (λ (m : ℕ). m ∷ []) (h ∙ ap (λ (j : ℕ). waitAt j (read t .ticking)) (at .index))

@@ -23,7 +23,7 @@ use Rattle.links.specs.Places.{InTable}
 use Rattle.slots.specs.Search.{namedSlot}
 use Rattle.slots.proofs.Laws.{named-some, named-none}
 
--- ---- the slot that an id names
+-- ---- the slot that an id names: what its rule says, where it is, and that its words are in the slice
 
 pub record Named (t : List ℕ) (id i : ℕ) : Type 0 where
   pub rule : not (names (read t) id) ≡ false

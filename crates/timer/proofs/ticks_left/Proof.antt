@@ -59,7 +59,7 @@ returns-4 : tie.Need-returns-4
 returns-4 c =
     let d = c .before .before .before in
     let s = sure (found d) in
-    done _ _ (_ ∷ []) _ [] (s .rule, (at d .rule, tt)) (some-ticks (at d) _ (c .ticks-to .ensures)) (same-table _ (s .ok)) refl
+    done _ _ (_ ∷ []) _ [] (s .rule, (at d .rule, tt)) (some-ticks (at d) (c .ticks-to .ensures)) (same-table _ (s .ok)) refl
 
 pub ticks-left-spec : {M : Type 1} → statement M
 ticks-left-spec =
