@@ -128,7 +128,7 @@ returns-6 : tie.Need-returns-6
 returns-6 c =
     let y = c .before .before .before in
     let x = ready (told y) in
-    refuses _ _ InvalidId 4 (sure (b y) .rule, (set x, (used x, (later y (omega (arith, y .if4 .left)), tt))))
+    refuses _ _ InvalidId 4 (sure (b y) .rule, (set x, (used x, (later y (y .if4 .left), tt))))
     (unknown _ _ (c .before .named .ensures) (c .if5 .taken)) refl
 
 start-requires : tie.Need-start-requires
@@ -144,7 +144,7 @@ returns-7 c =
     let z = told y in
     let x = ready z in
     let a = b y .before .before .before .before .args in
-    done _ _ (0 ∷ []) _ [] (sure (b y) .rule, (set x, (used x, (later y (omega (arith, y .if4 .left)), (at d .rule, tt))))) refl
+    done _ _ (0 ∷ []) _ [] (sure (b y) .rule, (set x, (used x, (later y (y .if4 .left), (at d .rule, tt))))) refl
     (dated-is (t (b y)) (a .when) (a .routine) (a .user-data) (z .before .before .to-seconds .ensures) (z .date .given .1) (at d .index)
     (c .before .before .start .ensures)) refl
 
