@@ -28,7 +28,7 @@ by-row P common leap year = go (eqb (year % 4) 0)
     go true = leap
     go false = common
 
-pub year-length : (year : ℕ) → total (monthsOf year) ≡ 365 + leapFlag year
+year-length : (year : ℕ) → total (monthsOf year) ≡ 365 + leapFlag year
 year-length = by-row (λ row flag. total row ≡ 365 + flag) refl refl
 
 pub year-short : (year : ℕ) → total (monthsOf year) ≤ 366

@@ -153,7 +153,7 @@ module _ (t : List ℕ) (i : ℕ) (h : InTable t i) where
   pub in-words : 8 * i + 10 ≤ length t
   in-words = omega (arith, in-slots, h .holds .long)
 
-  pub slot-is : slotAt (read t .slots) i ≡ slotFrom t i
+  slot-is : slotAt (read t .slots) i ≡ slotFrom t i
   slot-is = slot-read t i (h .low) (h .high)
 
   times-kind : (k : Chain) (b : Bool) → waitsIn k (field t 0 i) ≡ b → timesIn (chainOf k (read t)) i ≡ cond b 1 0

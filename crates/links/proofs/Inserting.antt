@@ -14,7 +14,7 @@ use Rattle.model.specs.Lists.{place}
 use Rattle.model.specs.Kinds.{waitingKind}
 use Rattle.model.specs.State.{Slot, Link, State, chainOf, rechain, slotAt, putAt}
 use Rattle.model.specs.Directives.{stopped, queued, waitingAs, started}
-use Rattle.model.specs.Words.{first, difference, over, word, field, read}
+use Rattle.model.specs.Words.{first, difference, over, field, read}
 use Rattle.model.proofs.ListLaws.{cases, count-append}
 use Rattle.model.proofs.WellFormed.{timesIn, Holds}
 use Rattle.model.proofs.Chains.{without-none, other, once-either, met-in-range}
@@ -29,11 +29,11 @@ use Rattle.links.proofs.Cutting.{in-slots, in-none}
 
 -- ---- the place
 
-pub placed : (x : Link) (c : List Link) → place (λ w. w .wait) x c ≡ upTo (x .wait) c ++ x ∷ beyond (x .wait) c
+placed : (x : Link) (c : List Link) → place (λ w. w .wait) x c ≡ upTo (x .wait) c ++ x ∷ beyond (x .wait) c
 placed x [] = refl
 placed x (y ∷ ys) = cases (leb (y .wait) (x .wait)) (λ e. rw e (ap {B = List Link} (λ l. y ∷ l) (placed x ys))) (λ e. rw e)
 
-pub parted : (n : ℕ) (c : List Link) → c ≡ upTo n c ++ beyond n c
+parted : (n : ℕ) (c : List Link) → c ≡ upTo n c ++ beyond n c
 parted n [] = refl
 parted n (y ∷ ys) = cases (leb (y .wait) n) (λ e. rw e (ap {B = List Link} (λ l. y ∷ l) (parted n ys))) (λ e. rw e)
 

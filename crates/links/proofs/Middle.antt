@@ -74,7 +74,7 @@ all-mid : (b : ℕ) (xs : List Link) (e : Link) (ys : List Link) → All (λ y. 
 all-mid b [] e ys h = h .0
 all-mid b (x ∷ xs) e ys h = all-mid b xs e ys (h .1)
 
-pub sorted-last : (b : ℕ) (xs : List Link) (e : Link) (ys : List Link) → b ≤ e .wait → Sorted (λ w. w .wait) (xs ++ e ∷ ys) → lastWait b xs ≤ e .wait
+sorted-last : (b : ℕ) (xs : List Link) (e : Link) (ys : List Link) → b ≤ e .wait → Sorted (λ w. w .wait) (xs ++ e ∷ ys) → lastWait b xs ≤ e .wait
 sorted-last b [] e ys p h = p
 sorted-last b (x ∷ xs) e ys p h = sorted-last (x .wait) xs e ys (all-mid (x .wait) xs e ys (h .0)) (h .1)
 
@@ -84,7 +84,7 @@ sorted-next (x ∷ xs) e y ys h = sorted-next xs e y ys (h .1)
 
 -- ---- what the table says of the link
 
-pub linked-mid : (k : Chain) (t : List ℕ) (p b : ℕ) (xs : List Link) (e : Link) (ys : List Link)
+linked-mid : (k : Chain) (t : List ℕ) (p b : ℕ) (xs : List Link) (e : Link) (ys : List Link)
     → Linked k t p b (xs ++ e ∷ ys) → Stands k t (lastSlot p xs) (lastWait b xs) e (first ys)
 linked-mid k t p b [] e ys h = h .0
 linked-mid k t p b (x ∷ xs) e ys h = linked-mid k t (x .slot) (x .wait) xs e ys (h .1)

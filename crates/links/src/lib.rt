@@ -4,7 +4,7 @@
 ghost use mathlib.Core.Path.{_≡_};
 ghost use Prim.Native.Nat.{_+_, _*_, _<_, _≤_};
 ghost use lib.ListN.{length, set};
-ghost use Rattle.model.specs.Kinds.{waitingKind, waitsIn};
+ghost use Rattle.model.specs.Kinds.{waitingKind};
 ghost use Rattle.model.specs.State.{slotAt, waitAt};
 ghost use Rattle.model.specs.Directives.{stored, stopped, idled, started};
 ghost use Rattle.model.specs.Words.{word, field, headWord, difference, read, over};
@@ -172,9 +172,9 @@ pub fn stop(t: &mut [u32], i: u32)
 }
 
 // Where a timer goes: the slot before it, and its wait.
-pub struct Place {
-    pub before: u32,
-    pub wait: u32,
+struct Place {
+    before: u32,
+    wait: u32,
 }
 
 // What is left of some ticks behind a slot of wait w; a date stays.

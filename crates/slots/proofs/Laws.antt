@@ -117,9 +117,6 @@ module _ (t : List ℕ) (id : ℕ) where
 
 -- ---- words cleared
 
-pub clear-start : (t : List ℕ) → t ≡ replicate 0 0 ++ drop 0 t
-clear-start t = refl
-
 pub clear-on : (t u : List ℕ) (i : ℕ) → i < length t → u ≡ replicate i 0 ++ drop i t → set u i 0 ≡ replicate (i + 1) 0 ++ drop (i + 1) t
 clear-on t u i h e =
     ap (λ (l : List ℕ). set l i 0) (e ∙ ap (λ (l : List ℕ). replicate i 0 ++ l) (drop-cons t i 0 h))

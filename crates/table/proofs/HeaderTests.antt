@@ -13,7 +13,7 @@ use Rattle.model.specs.Sound.{headerSound}
 use Rattle.table.specs.Walks.{allZero}
 use Rattle.table.proofs.Tests.{never, and-true}
 
-abbrev pub headerTests : List ℕ → List Bool
+abbrev headerTests : List ℕ → List Bool
 headerTests t =
     leb 1 (word t 0) ∷ leb (word t 0) 255 ∷ leb (10 + 8 * word t 0) (length t)
     ∷ leb 1 (word t 1) ∷ leb (word t 1) 1000 ∷ leb (word t 2) 1 ∷ leb (word t 3) lastSecond ∷ ltb (word t 4) (word t 1)

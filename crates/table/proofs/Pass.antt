@@ -15,10 +15,10 @@ use Rattle.model.specs.declared.Chain.the-variants.{ByTicks, ByDate}
 use Rattle.model.specs.Kinds.{waitsIn, waitingKind}
 use Rattle.model.specs.Words.{word, field, headWord, along}
 use Rattle.model.specs.Sound.{headerSound, slotSound, chainSound, sound}
-use Rattle.model.proofs.ListLaws.{cases, clash, both, and-both, or-left, or-right, or-else, all-at, all-true, all-up, up-at}
+use Rattle.model.proofs.ListLaws.{cases, both, and-both, or-left, or-right, or-else, all-at, all-true, all-up, up-at}
 use Rattle.table.specs.Walks.{Stand, standing, start, headsTested, slotTested, stepTested, step, endTested, walkTested, waiting, leftTested}
 use Rattle.table.proofs.Tests.{and-false, same}
-use Rattle.table.proofs.HeaderTests.{Ranges, header-ranges}
+use Rattle.table.proofs.HeaderTests.{header-ranges}
 use Rattle.table.proofs.StepTests.{in-ticks}
 use Rattle.table.proofs.SlotTests.{tested-sound, sound-tested}
 use Rattle.table.proofs.Sums.{times}
@@ -41,10 +41,6 @@ module _ (t : List ℕ) where
   pub header-false : headerSound t ≡ false → false ≡ sound t
   unfolding parts
   header-false e = sym (sound-parts false e)
-
-  -- for callers: what a sound table's header says
-  pub sound-ranges : sound t ≡ true → Ranges t
-  sound-ranges e = cases (headerSound t) (λ h. header-ranges t h) (λ h. clash (sym e ∙ sym (header-false h)))
 
   -- ---- what is tested decides
 

@@ -68,12 +68,6 @@ module _ (t : List ℕ) (n : ℕ) (x : Stand) where
         high = leb-true left (field t 2 (x .slot)) (b .1);
       }
 
-  pub ticks-in : InTicks → stepTested ByTicks t n x ≡ true
-  unfolding stepTested
-  ticks-in h =
-      and-both link (waitTested ByTicks t (x .slot) (x .reached)) (link-in t n (x .slot) (x .before) (h .link))
-      (and-both (leb 1 left) (leb left (field t 2 (x .slot))) (le-leb 1 left (h .low)) (le-leb left (field t 2 (x .slot)) (h .high)))
-
   pub no-ticks : (InTicks → ⊥) → false ≡ stepTested ByTicks t n x
   no-ticks f = never (stepTested ByTicks t n x) (λ e. f (in-ticks e))
 

@@ -26,7 +26,7 @@ pub sum-same : (f g : ℕ → ℕ) (i n : ℕ) → ((j : ℕ) → i ≤ j → j 
 sum-same f g i zero h = refl
 sum-same f g i (suc n) h = ap₂ _+_ (h i (omega arith) (omega arith)) (sum-same f g (suc i) n (λ j a b. h j (omega arith) (omega arith)))
 
-pub sum-le : (f g : ℕ → ℕ) (i n : ℕ) → ((j : ℕ) → i ≤ j → j < i + n → f j ≤ g j) → sumUp f i n ≤ sumUp g i n
+sum-le : (f g : ℕ → ℕ) (i n : ℕ) → ((j : ℕ) → i ≤ j → j < i + n → f j ≤ g j) → sumUp f i n ≤ sumUp g i n
 sum-le f g i zero h = omega arith
 sum-le f g i (suc n) h = omega (arith, h i (omega arith) (omega arith), sum-le f g (suc i) n (λ j a b. h j (omega arith) (omega arith)))
 
