@@ -4,10 +4,14 @@ use borrow.Author.Needs.{needs}
 use native.Mathlib.Omega.{arith}
 use mathlib.Core.Path.{sym}
 use Prim.Native.Nat.{_+_, _*_, _/_, _%_}
-use Rattle.calendar.proofs.Years.{in-four}
+use Rattle.calendar.proofs.Years.{InFour, in-four}
 use Rattle.calendar.proofs.Found.{date-is}
 use Rattle.calendar.proofs.date_in_range.Statement.{statement}
 use Rattle.calendar.proofs.date_in_range.Tie as tie
+
+-- the year, in the four years in which the second lies
+year-of : (c : tie.Start) → let s = c .args .s in InFour (s / 126230400) (s % 126230400 / 86400) (s % 126230400 / 86400 * 4 / 1461)
+year-of c = let s = c .args .s in in-four (s / 126230400) (s % 126230400 / 86400) (omega arith) (omega arith)
 
 mul-years : tie.Need-mul-years
 mul-years c = search needs
@@ -25,14 +29,10 @@ days-before-year-requires : tie.Need-days-before-year-requires
 days-before-year-requires c κs = search needs
 
 sub-month-day : tie.Need-sub-month-day
-sub-month-day c =
-    let s = c .before .args .s in
-    omega (arith, in-four (s / 126230400) (s % 126230400 / 86400) (omega arith) (omega arith))
+sub-month-day c = omega (arith, year-of (c .before))
 
 month-day-requires : tie.Need-month-day-requires
-month-day-requires c κs =
-    let s = c .before .args .s in
-    omega (arith, in-four (s / 126230400) (s % 126230400 / 86400) (omega arith) (omega arith))
+month-day-requires c κs = omega (arith, year-of (c .before))
 
 add-month : tie.Need-add-month
 add-month c = search needs
@@ -42,11 +42,10 @@ add-date c = search needs
 
 returns : tie.Need-returns
 returns c =
-    let s = c .before .before .before .before .args .s in
-    let day = s % 126230400 / 86400 in
-    let f = in-four (s / 126230400) day (omega arith) (omega arith) in
-    let m = c .before .before .month-day .ensures in
-    sym (date-is s (s / 126230400 * 4 + day * 4 / 1461) _ _ (f .year) (m .1) (omega arith))
+    let start = c .before .before .before .before in
+    let s = start .args .s in
+    let f = year-of start in
+    sym (date-is s (s / 126230400 * 4 + s % 126230400 / 86400 * 4 / 1461) _ _ (f .year) (c .before .before .month-day .ensures .1) (omega arith))
 
 pub date-in-range-spec : {M : Type 1} → statement M
 date-in-range-spec =
