@@ -9,6 +9,7 @@ use Prim.Native.Nat.{ℕ, zero, suc, _+_, _≤_, _<_}
 use mathlib.Core.Path.{_≡_, refl, sym, _∙_, subst}
 use mathlib.Core.Bool.{true, _||_}
 use mathlib.Core.List.{List, [], _∷_}
+use native.Mathlib.Nat.{pos-of-ne-zero}
 use native.Mathlib.Omega.{arith}
 use lib.Dec.{leb, eqb}
 use borrow.Author.Tests.{eqb-true, eqb-false, eq-eqb, ne-eqb, le-leb, leb-true, leb-false}
@@ -74,7 +75,7 @@ module _ (t : List ℕ) where
       let s = in-ticks t N x (a .0) in
       and-both (stepSound ByTicks t N x) (walk ByTicks t N c (step ByTicks t x))
       (step-in ByTicks x
-      (record { low = s .link .low; high = s .link .high; kind = ticks-kind x slots b s; previous = s .link .previous }) (w .1))
+      (record { link = s .link; kind = ticks-kind x slots b s }) (w .1))
       (ticks-whole c (step ByTicks t x) slots (λ z. absurd (omega (arith, s .link .low, z))) (a .1))
 
   pub ticks-tested : (c : ℕ) (x : Stand) → walk ByTicks t N c x ≡ true → walkTested ByTicks t N c x ≡ true
@@ -86,7 +87,7 @@ module _ (t : List ℕ) where
       let h = in-step ByTicks x (a .0) in
       and-both (stepTested ByTicks t N x) (walkTested ByTicks t N c (step ByTicks t x))
       (and-both (linkTested t N (x .slot) (x .before)) (waitTested ByTicks t (x .slot) (x .reached))
-      (link-in t N (x .slot) (x .before) (record { low = h .low; high = h .high; previous = h .previous })) (w .1))
+      (link-in t N (x .slot) (x .before) (h .link)) (w .1))
       (ticks-tested c (step ByTicks t x) (a .1))
 
   -- ---- what a walk that tests everything says of the slots that it meets
@@ -98,7 +99,7 @@ module _ (t : List ℕ) where
   each k P g (suc c) zero x e = tt
   each k P g (suc c) (suc f) x e =
       let a = both (stepSound k t N x) (walk k t N c (step k t x)) e in
-      rw (along-first (field t 6) f (x .slot) (in-step k x (a .0) .low)) (g x (a .0), each k P g c f (step k t x) (a .1))
+      rw (along-first (field t 6) f (x .slot) (in-step k x (a .0) .link .low)) (g x (a .0), each k P g c f (step k t x) (a .1))
 
   pub kinds : (k : Chain) (c f : ℕ) (x : Stand) → walk k t N c x ≡ true
       → All (λ j. (1 ≤ j) × (field t 0 j ≡ waitingKind k)) (along (field t 6) f (x .slot))
@@ -106,7 +107,7 @@ module _ (t : List ℕ) where
       each k (λ j. (1 ≤ j) × (field t 0 j ≡ waitingKind k))
       (λ y s.
       let h = in-step k y s in
-      (h .low, h .kind))
+      (h .link .low, h .kind))
       c f x e
 
   intervals : (c f : ℕ) (x : Stand) → walk ByTicks t N c x ≡ true → All (λ j. 1 ≤ field t 2 j) (along (field t 6) f (x .slot))
@@ -126,9 +127,9 @@ module _ (t : List ℕ) where
   previous k (suc c) (suc f) x e =
       let a = both (stepSound k t N x) (walk k t N c (step k t x)) e in
       let h = in-step k x (a .0) in
-      rw (along-first (field t 6) f (x .slot) (h .low))
+      rw (along-first (field t 6) f (x .slot) (h .link .low))
       (and-both (eqb (field t 7 (x .slot)) (x .before)) (previousSound t (x .slot) (along (field t 6) f (field t 6 (x .slot))))
-      (eq-eqb (field t 7 (x .slot)) (x .before) (h .previous)) (previous k c f (step k t x) (a .1)))
+      (eq-eqb (field t 7 (x .slot)) (x .before) (h .link .previous)) (previous k c f (step k t x) (a .1)))
 
   pub interval-low : (c f : ℕ) (x : Stand) → walk ByTicks t N c x ≡ true → (j : ℕ) → 0 < times j (along (field t 6) f (x .slot))
       → 1 ≤ field t 2 j
@@ -203,16 +204,13 @@ module _ (t : List ℕ) where
       let both-at = apart .heads (sym at ∙ d .head none) in
       omega (arith, at, both-at, s .link .low))
       (λ e.
-      let some = above (x .before) (eqb-false (x .before) 0 e) in
+      let some = pos-of-ne-zero (eqb-false (x .before) 0 e) in
       let four = b .1 (subst (λ (v : ℕ). 1 ≤ v) (sym (s .link .previous)) some) in
       let four′ : field t 0 (x .before) ≡ 4 = subst (λ (v : ℕ). field t 0 v ≡ 4) (s .link .previous) four in
       omega (arith, four′, d .kind some)))
     where
       only : (k : ℕ) → k ≤ 5 → (k ≤ 3 → ⊥) → (k ≡ 4 → ⊥) → k ≡ 5
       only k h a b = omega arith
-
-      above : (k : ℕ) → (k ≡ 0 → ⊥) → 1 ≤ k
-      above k h = omega arith
 
   -- what is reached is not above the last date
   last-date : (c : ℕ) (x : Stand) → 1 ≤ x .before → walkTested ByDate t N c x ≡ true → x .reached ≤ lastSecond
@@ -237,7 +235,7 @@ module _ (t : List ℕ) where
       let kind = dates-kind x slots apart d s in
       and-both (stepSound ByDate t N x) (walk ByDate t N c (step ByDate t x))
       (step-in ByDate x
-      (record { low = s .link .low; high = s .link .high; kind = kind; previous = s .link .previous })
+      (record { link = s .link; kind = kind })
       (and-both (leb (x .reached) date) (leb date lastSecond) (le-leb (x .reached) date (s .low))
       (le-leb date lastSecond (last-date c (step ByDate t x) (s .link .low) (a .1)))))
       (dates-whole c (step ByDate t x) slots apart
@@ -255,5 +253,5 @@ module _ (t : List ℕ) where
       let h = in-step ByDate x (a .0) in
       and-both (stepTested ByDate t N x) (walkTested ByDate t N c (step ByDate t x))
       (dates-in t N x
-      (record { link = record { low = h .low; high = h .high; previous = h .previous }; low = leb-true (x .reached) date (b .0) }))
+      (record { link = h .link; low = leb-true (x .reached) date (b .0) }))
       (dates-tested c (step ByDate t x) (or-right (eqb (x .slot) 0) (leb date lastSecond) (b .1)) (a .1))

@@ -1,7 +1,7 @@
 -- The header's tests: what they say where they pass, and what is left of them where most have passed. Assumes nothing.
 use Prim.Native.Nat.{ℕ, _+_, _*_, _≤_, _<_}
 use mathlib.Core.Path.{_≡_, sym, _∙_}
-use mathlib.Core.Bool.{Bool, true, false, _||_}
+use mathlib.Core.Bool.{Bool, true, false, _||_, and-true}
 use mathlib.Core.List.{List, [], _∷_}
 use lib.ListN.{length}
 use lib.Dec.{leb, ltb, eqb}
@@ -11,7 +11,7 @@ use Rattle.model.proofs.ListLaws.{clash, all-at, all-true}
 use Rattle.model.specs.Words.{word}
 use Rattle.model.specs.Sound.{headerSound}
 use Rattle.table.specs.Walks.{allZero}
-use Rattle.table.proofs.Tests.{never, and-true}
+use Rattle.table.proofs.Tests.{never}
 
 abbrev headerTests : List ℕ → List Bool
 headerTests t =

@@ -2,8 +2,9 @@
 -- both walks must stand at 0. Assumes nothing.
 use Prim.Native.Nat.{ℕ, suc, _+_, _-_, _*_, _≤_, _<_}
 use mathlib.Core.Path.{_≡_, refl, sym, ap, ap₂, _∙_, subst}
-use mathlib.Core.Bool.{Bool, true, false, cond, not, _&&_}
+use mathlib.Core.Bool.{Bool, true, false, cond, not, _&&_, and-false}
 use mathlib.Core.List.{List, [], _∷_}
+use native.Mathlib.Nat.{pos-of-ne-zero}
 use native.Mathlib.Numerals.{add-one}
 use native.Mathlib.Omega.{arith}
 use lib.ListN.{length}
@@ -17,7 +18,7 @@ use Rattle.model.specs.Words.{word, field, headWord, along}
 use Rattle.model.specs.Sound.{headerSound, slotSound, chainSound, sound}
 use Rattle.model.proofs.ListLaws.{cases, both, and-both, or-left, or-right, or-else, all-at, all-true, all-up, up-at}
 use Rattle.table.specs.Walks.{Stand, standing, start, headsTested, slotTested, stepTested, step, endTested, walkTested, waiting, leftTested}
-use Rattle.table.proofs.Tests.{and-false, same}
+use Rattle.table.proofs.Tests.{same}
 use Rattle.table.proofs.HeaderTests.{header-ranges}
 use Rattle.table.proofs.StepTests.{in-ticks}
 use Rattle.table.proofs.SlotTests.{tested-sound, sound-tested}
@@ -74,12 +75,9 @@ module _ (t : List ℕ) where
       or-left (not (eqb (word t 5) (word t 6))) (eqb (word t 5) 0)
       (ap not (ne-eqb (word t 5) (word t 6)
       (λ e.
-      let low = above (word t 5) (eqb-false (word t 5) 0 q) in
+      let low = pos-of-ne-zero (eqb-false (word t 5) 0 q) in
       let five : field t 0 (word t 5) ≡ 5 = subst (λ (v : ℕ). field t 0 v ≡ 5) (sym e) (head-kind ByDate b (omega (arith, low, e))) in
       omega (arith, head-kind ByTicks a low, five)))))
-    where
-      above : (k : ℕ) → (k ≡ 0 → ⊥) → 1 ≤ k
-      above k h = omega arith
 
   tests-from : sound t ≡ true → headerSound t ≡ true → tests ≡ true
   unfolding parts leftTested
@@ -168,7 +166,8 @@ module _ (t : List ℕ) (n : ℕ) (x y : Stand) where
 
   -- the slot is sound: the steps are left
   at-kind : (i m : ℕ) (u v : Bool) → slotTested t i ≡ true → waitsIn ByTicks (field t 0 i) ≡ u → waitsIn ByDate (field t 0 i) ≡ v
-      → leftTested t n i (suc m) x y ≡ (allUp (slotTested t) (suc i) m && (walkTested ByTicks t n (paid ByTicks i m u) x && walkTested ByDate t n (paid ByDate i m v) y))
+      → leftTested t n i (suc m) x y
+      ≡ (allUp (slotTested t) (suc i) m && (walkTested ByTicks t n (paid ByTicks i m u) x && walkTested ByDate t n (paid ByDate i m v) y))
   unfolding rest
   at-kind i m u v h f g =
       opened i m
@@ -177,7 +176,8 @@ module _ (t : List ℕ) (n : ℕ) (x y : Stand) where
 
   tick : (i m : ℕ) (r : Bool) → slotTested t i ≡ true → field t 0 i ≡ 4 → stepTested ByTicks t n x ≡ r
       → leftTested t n i (suc m) x y
-      ≡ (allUp (slotTested t) (suc i) m && ((r && walkTested ByTicks t n (waiting ByTicks t (suc i) m) (step ByTicks t x)) && walkTested ByDate t n (waiting ByDate t (suc i) m) y))
+      ≡ (allUp (slotTested t) (suc i) m
+      && ((r && walkTested ByTicks t n (waiting ByTicks t (suc i) m) (step ByTicks t x)) && walkTested ByDate t n (waiting ByDate t (suc i) m) y))
   unfolding walkTested
   tick i m r h f g =
       at-kind i m true false h (eq-eqb (field t 0 i) 4 f) (ne-eqb (field t 0 i) 5 (λ z. omega arith))
@@ -186,7 +186,8 @@ module _ (t : List ℕ) (n : ℕ) (x y : Stand) where
 
   date : (i m : ℕ) (r : Bool) → slotTested t i ≡ true → field t 0 i ≡ 5 → stepTested ByDate t n y ≡ r
       → leftTested t n i (suc m) x y
-      ≡ (allUp (slotTested t) (suc i) m && (walkTested ByTicks t n (waiting ByTicks t (suc i) m) x && (r && walkTested ByDate t n (waiting ByDate t (suc i) m) (step ByDate t y))))
+      ≡ (allUp (slotTested t) (suc i) m
+      && (walkTested ByTicks t n (waiting ByTicks t (suc i) m) x && (r && walkTested ByDate t n (waiting ByDate t (suc i) m) (step ByDate t y))))
   unfolding walkTested
   date i m r h f g =
       at-kind i m false true h (ne-eqb (field t 0 i) 4 (λ z. omega arith)) (eq-eqb (field t 0 i) 5 f)
@@ -232,6 +233,12 @@ module _ {t : List ℕ} {n i : ℕ} {x y : Stand} (p : Passing t n i x y) where
 
     here : sound t ≡ leftTested t n i (suc more) x y
     here = p .left ∙ ap (λ (m : ℕ). leftTested t n i m x y) (let z : n + 1 - i ≡ suc (n + 1 - (i + 1)) = omega arith in z)
+
+    pub inside : 8 * i + 10 ≤ length t
+    inside = omega (arith, p .long)
+
+    pub fewer : n + 1 - (i + 1) < n + 1 - i
+    fewer = omega arith
 
     -- one slot on
     on : (v w : Stand) → v .reached < 4294967296 → sound t ≡ leftTested t n (suc i) more v w → Passing t n (i + 1) v w

@@ -2,7 +2,7 @@
 -- what the walks need of the slot, and the slot is sound if besides its interval is 1 or more where its kind is 4. Assumes nothing.
 use Prim.Native.Nat.{ℕ, _≤_, _<_}
 use mathlib.Core.Path.{_≡_, refl, sym, ap, _∙_}
-use mathlib.Core.Bool.{Bool, true, false, cond, not, _&&_, _||_}
+use mathlib.Core.Bool.{Bool, true, false, cond, not, _&&_, _||_, and-true}
 use mathlib.Core.List.{List, [], _∷_}
 use native.Mathlib.Omega.{arith}
 use lib.ListN.{getD}
@@ -15,7 +15,7 @@ use Rattle.model.specs.Kinds.{idleKind, waitsIn, lastByTicks}
 use Rattle.model.specs.Words.{field}
 use Rattle.model.specs.Sound.{slotSound, unlinked, unstarted}
 use Rattle.table.specs.Walks.{slotTested, slotTestedAs}
-use Rattle.table.proofs.Tests.{fails, and-true}
+use Rattle.table.proofs.Tests.{fails}
 
 -- Interval is 1 or more after a start by ticks, zero after one by date.
 abbrev pub intervalSound : Chain → ℕ → Bool

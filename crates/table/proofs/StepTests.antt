@@ -1,7 +1,7 @@
 -- A step's tests, of the link and of the wait: what they say where they pass. Assumes nothing.
 use Prim.Native.Nat.{ℕ, _+_, _≤_}
 use mathlib.Core.Path.{_≡_, sym, ap}
-use mathlib.Core.Bool.{Bool, true, false, _&&_}
+use mathlib.Core.Bool.{Bool, true, false, _&&_, and-true}
 use mathlib.Core.List.{List, [], _∷_}
 use lib.Dec.{leb, eqb}
 use borrow.Author.Tests.{eqb-true, eq-eqb, le-leb, leb-true}
@@ -10,7 +10,7 @@ use Rattle.model.specs.declared.Chain.the-variants.{ByTicks, ByDate}
 use Rattle.model.specs.Words.{field}
 use Rattle.model.proofs.ListLaws.{both, and-both, all-at, all-true}
 use Rattle.table.specs.Walks.{Stand, linkTested, waitTested, stepTested}
-use Rattle.table.proofs.Tests.{never, and-true}
+use Rattle.table.proofs.Tests.{never}
 
 pub record InLink (t : List ℕ) (n i p : ℕ) : Type 0 where
   pub low : 1 ≤ i

@@ -1,9 +1,10 @@
 -- Sums over a range of numbers, and how often a number stands in a list: summed over the range, that is the list's length. By induction.
 -- Assumes nothing.
 use Prim.Native.Nat.{ℕ, zero, suc, _+_, _≤_, _<_}
-use mathlib.Core.Path.{_≡_, refl, ap₂, _∙_, subst}
+use mathlib.Core.Path.{_≡_, refl, sym, ap₂, _∙_, subst}
 use mathlib.Core.Bool.{cond}
 use mathlib.Core.List.{List, [], _∷_}
+use native.Mathlib.Numerals.{lt-of-le-of-ne}
 use native.Mathlib.Omega.{arith}
 use lib.ListN.{length}
 use lib.Dec.{eqb}
@@ -47,10 +48,7 @@ sum-one x i zero a b = absurd (omega arith)
 sum-one x i (suc n) a b =
     cases (eqb x i)
     (λ e. rw e (omega (arith, sum-none x (suc i) n (omega (arith, eqb-true x i e)))))
-    (λ e. rw e (omega (arith, sum-one x (suc i) n (more x i a (eqb-false x i e)) (omega arith))))
-  where
-    more : (x i : ℕ) → i ≤ x → (x ≡ i → ⊥) → suc i ≤ x
-    more x i a h = omega arith
+    (λ e. rw e (omega (arith, sum-one x (suc i) n (lt-of-le-of-ne a (λ q. eqb-false x i e (sym q))) (omega arith))))
 
 sum-zero : (i n : ℕ) → sumUp (λ j. 0) i n ≡ 0
 sum-zero i zero = refl
@@ -65,17 +63,15 @@ sum-times (x ∷ xs) i n h =
     ∙ omega (arith, sum-one x i n (h .0 .0) (h .0 .1), sum-times xs i n (h .1))
 
 -- two sums are equal and no term is greater: the terms are equal
-pub sum-tight : (f g : ℕ → ℕ) (i n : ℕ) → ((j : ℕ) → i ≤ j → j < i + n → f j ≤ g j) → sumUp f i n ≡ sumUp g i n → (j : ℕ) → i ≤ j → j < i + n → f j ≡ g j
+pub sum-tight : (f g : ℕ → ℕ) (i n : ℕ) → ((j : ℕ) → i ≤ j → j < i + n → f j ≤ g j) → sumUp f i n ≡ sumUp g i n
+    → (j : ℕ) → i ≤ j → j < i + n → f j ≡ g j
 sum-tight f g i zero h e j a b = absurd (omega arith)
 sum-tight f g i (suc n) h e j a b =
     let low = h i (omega arith) (omega arith) in
     let rest = sum-le f g (suc i) n (λ k p q. h k (omega arith) (omega arith)) in
     cases (eqb i j)
     (λ q. subst (λ (k : ℕ). f k ≡ g k) (eqb-true i j q) (omega arith))
-    (λ q. sum-tight f g (suc i) n (λ k p r. h k (omega arith) (omega arith)) (omega arith) j (more j i a (eqb-false i j q)) (omega arith))
-  where
-    more : (x i : ℕ) → i ≤ x → (i ≡ x → ⊥) → suc i ≤ x
-    more x i a h = omega arith
+    (λ q. sum-tight f g (suc i) n (λ k p r. h k (omega arith) (omega arith)) (omega arith) j (lt-of-le-of-ne a (eqb-false i j q)) (omega arith))
 
 -- what does not hold of a number keeps it out of a list in which it holds of all
 pub none-times : (P : ℕ → Type 0) (l : List ℕ) (x : ℕ) → All P l → (P x → ⊥) → times x l ≡ 0

@@ -1,7 +1,7 @@
 -- Laws of Boolean tests and of lists of them, by cases on the tests. Assumes nothing.
 use Prim.Native.Nat.{ℕ, zero, suc}
 use mathlib.Core.Path.{_≡_, refl, sym, ap, _∙_}
-use mathlib.Core.Bool.{Bool, true, false, not, _&&_}
+use mathlib.Core.Bool.{Bool, true, false, not, _&&_, and-true, and-false}
 use mathlib.Core.List.{List, [], _∷_}
 use native.Mathlib.Omega.{arith}
 use lib.ListN.{getD}
@@ -11,14 +11,6 @@ use borrow.Author.Tests.{eqb-true, eq-eqb, not-true, not-false}
 use Rattle.calendar.specs.Calendar.{allOf}
 use Rattle.model.proofs.ListLaws.{cases, clash, both, and-both}
 use Rattle.table.specs.Walks.{allZero}
-
-pub and-true : (a : Bool) → (a && true) ≡ a
-and-true true = refl
-and-true false = refl
-
-pub and-false : (a : Bool) → (a && false) ≡ false
-and-false true = refl
-and-false false = refl
 
 -- what a call said of a test, and which way the test went
 pub passed : {a b : Bool} → a ≡ b → not a ≡ false → b ≡ true

@@ -3,13 +3,13 @@
 -- number of steps, which is the number of slots of the kind: so each of those is met once. Assumes nothing.
 use Prim.Native.Nat.{ℕ, zero, suc, _+_, _≤_, _<_}
 use mathlib.Core.Path.{_≡_, refl, sym, ap, _∙_, subst}
-use mathlib.Core.Bool.{Bool, true, false, cond, _&&_}
+use mathlib.Core.Bool.{Bool, true, false, cond, _&&_, and-true}
 use mathlib.Core.List.{List, [], _∷_}
 use native.Mathlib.Omega.{arith}
 use lib.ListN.{length}
 use lib.Dec.{leb, eqb}
 use borrow.Author.Tests.{eqb-true, eqb-false, eq-eqb, le-leb, leb-true}
-use Rattle.calendar.specs.Calendar.{allOf, lastSecond}
+use Rattle.calendar.specs.Calendar.{lastSecond}
 use Rattle.model.specs.Lists.{every, allUp, All}
 use Rattle.model.specs.declared.Chain.{Chain}
 use Rattle.model.specs.declared.Chain.the-variants.{ByTicks, ByDate}
@@ -17,9 +17,10 @@ use Rattle.model.specs.Kinds.{waitingKind, waitsIn}
 use Rattle.model.specs.State.{Link}
 use Rattle.model.specs.Words.{word, field, headWord, along, total, linksFrom}
 use Rattle.model.specs.Sound.{previousSound, chainSound, firstSound, ticksSound, rising, datesSound}
-use Rattle.model.proofs.ListLaws.{cases, both, and-both, all-at, all-true, all-up, up-at, every-true, every-all, all-map}
-use Rattle.table.specs.Walks.{Stand, standing, origin, start, step, waiting}
-use Rattle.table.proofs.Tests.{same, exchange, and-true}
+use Rattle.model.proofs.ListLaws.{cases, both, and-both, all-at, all-true, all-up, up-at, every-true, every-all, all-map, all-zip}
+use Rattle.table.specs.Walks.{Stand, standing, origin, start, linkTested, waitTested, step, waiting}
+use Rattle.table.proofs.Tests.{same, exchange}
+use Rattle.table.proofs.StepTests.{InLink, in-link, link-in}
 use Rattle.table.proofs.Sums.{times, sumUp, sum-same, sum-few, sum-times, sum-tight, none-times}
 use Rattle.table.proofs.Steps.{Ends, along-first, along-more, ends-length, ends-of, once, along-low, links-first, links-more}
 
@@ -30,14 +31,14 @@ waitsSound ByDate t = datesSound t
 
 -- ---- the walk that tests everything
 
--- slot i of n is of that kind, and slot p stands before it
+-- slot i of n stands behind slot p, and is of that kind
 unfoldable pub linkSound : List ℕ → ℕ → ℕ → ℕ → ℕ → Bool
-linkSound t n kind i p = allOf (leb 1 i ∷ leb i n ∷ eqb (field t 0 i) kind ∷ eqb (field t 7 i) p ∷ [])
+linkSound t n kind i p = linkTested t n i p && eqb (field t 0 i) kind
 
--- Ticks left are 1 at least and not above the interval. A date is not below the one before it, and not past the last second.
+-- what is tested of a wait; and a date is not past the last second
 abbrev pub waitSound : Chain → List ℕ → ℕ → ℕ → Bool
-waitSound ByTicks t i b = leb 1 (b + field t 3 i) && leb (b + field t 3 i) (field t 2 i)
-waitSound ByDate t i b = leb b (field t 3 i) && leb (field t 3 i) lastSecond
+waitSound ByTicks t i b = waitTested ByTicks t i b
+waitSound ByDate t i b = waitTested ByDate t i b && leb (field t 3 i) lastSecond
 
 abbrev pub stepSound : Chain → List ℕ → ℕ → Stand → Bool
 stepSound k t n x = linkSound t n (waitingKind k) (x .slot) (x .before) && waitSound k t (x .slot) (x .reached)
@@ -48,26 +49,20 @@ walk k t n zero x = eqb (x .slot) 0
 walk k t n (suc c) x = stepSound k t n x && walk k t n c (step k t x)
 
 pub record InChain (t : List ℕ) (n k i p : ℕ) : Type 0 where
-  pub low : 1 ≤ i
-  pub high : i ≤ n
+  pub link : InLink t n i p
   pub kind : field t 0 i ≡ k
-  pub previous : field t 7 i ≡ p
 
 module _ (t : List ℕ) (n kind i p : ℕ) where
-  abbrev linkTests : List Bool
-  linkTests = leb 1 i ∷ leb i n ∷ eqb (field t 0 i) kind ∷ eqb (field t 7 i) p ∷ []
-
   pub in-chain : linkSound t n kind i p ≡ true → InChain t n kind i p
   unfolding linkSound
   in-chain e =
-      let at = all-at linkTests e in
-      record { low = leb-true 1 i (at 0); high = leb-true i n (at 1); kind = eqb-true (field t 0 i) kind (at 2); previous = eqb-true (field t 7 i) p (at 3) }
+      let a = both (linkTested t n i p) (eqb (field t 0 i) kind) e in
+      record { link = in-link t n i p (a .0); kind = eqb-true (field t 0 i) kind (a .1) }
 
   pub chain-in : InChain t n kind i p → linkSound t n kind i p ≡ true
   unfolding linkSound
   chain-in h =
-      all-true linkTests
-      (le-leb 1 i (h .low), (le-leb i n (h .high), (eq-eqb (field t 0 i) kind (h .kind), (eq-eqb (field t 7 i) p (h .previous), tt))))
+      and-both (linkTested t n i p) (eqb (field t 0 i) kind) (link-in t n i p (h .link)) (eq-eqb (field t 0 i) kind (h .kind))
 
 module _ (k : Chain) (t : List ℕ) where
   -- 1 where slot j waits in the chain
@@ -105,9 +100,13 @@ module _ (k : Chain) (t : List ℕ) where
 
   -- ---- the links
 
+  -- a slot of n, of the chain's kind
+  abbrev OfKind : ℕ → ℕ → Type 0
+  OfKind n x = (x ≤ n) × (field t 0 x ≡ waitingKind k)
+
   record Linked (n c i p : ℕ) : Type 0 where
     ends : Ends (field t 6) c i
-    kind : All (λ x. (x ≤ n) × (field t 0 x ≡ waitingKind k)) (along (field t 6) c i)
+    kind : All (OfKind n) (along (field t 6) c i)
     previous : previousSound t p (along (field t 6) c i) ≡ true
 
   from-linked : (n c i p : ℕ) → linked n c i p ≡ true → Linked n c i p
@@ -116,12 +115,12 @@ module _ (k : Chain) (t : List ℕ) where
       let a = both (linkSound t n (waitingKind k) i p) (linked n c (field t 6 i) i) e in
       let h = in-chain t n (waitingKind k) i p (a .0) in
       let r = from-linked n c (field t 6 i) i (a .1) in
-      let is : along (field t 6) (suc c) i ≡ i ∷ along (field t 6) c (field t 6 i) = along-first (field t 6) c i (h .low) in
+      let is : along (field t 6) (suc c) i ≡ i ∷ along (field t 6) c (field t 6 i) = along-first (field t 6) c i (h .link .low) in
       record {
-        ends = (h .low, r .ends);
-        kind = rw is ((h .high, h .kind), r .kind);
+        ends = (h .link .low, r .ends);
+        kind = rw is ((h .link .high, h .kind), r .kind);
         previous = rw is (
-            and-both (eqb (field t 7 i) p) (previousSound t i (along (field t 6) c (field t 6 i))) (eq-eqb (field t 7 i) p (h .previous)) (r .previous));
+            and-both (eqb (field t 7 i) p) (previousSound t i (along (field t 6) c (field t 6 i))) (eq-eqb (field t 7 i) p (h .link .previous)) (r .previous));
       }
 
   to-linked : (n c i p : ℕ) → Linked n c i p → linked n c i p ≡ true
@@ -129,12 +128,12 @@ module _ (k : Chain) (t : List ℕ) where
   to-linked n (suc c) i p h =
       let rest = along (field t 6) c (field t 6 i) in
       let is : along (field t 6) (suc c) i ≡ i ∷ rest = along-first (field t 6) c i (h .ends .0) in
-      let kinds : All (λ x. (x ≤ n) × (field t 0 x ≡ waitingKind k)) (i ∷ rest) = rw is at (h .kind) in
+      let kinds : All (OfKind n) (i ∷ rest) = rw is at (h .kind) in
       let previous : previousSound t p (i ∷ rest) ≡ true = rw is at (h .previous) in
       let q = both (eqb (field t 7 i) p) (previousSound t i rest) previous in
       and-both (linkSound t n (waitingKind k) i p) (linked n c (field t 6 i) i)
       (chain-in t n (waitingKind k) i p
-      (record { low = h .ends .0; high = kinds .0 .0; kind = kinds .0 .1; previous = eqb-true (field t 7 i) p (q .0) }))
+      (record { link = record { low = h .ends .0; high = kinds .0 .0; previous = eqb-true (field t 7 i) p (q .0) }; kind = kinds .0 .1 }))
       (to-linked n c (field t 6 i) i (record { ends = h .ends .1; kind = kinds .1; previous = q .1 }))
 
   -- ---- the chain
@@ -162,7 +161,8 @@ module _ (k : Chain) (t : List ℕ) where
       let is : along (field t 6) N head ≡ l = along-more (field t 6) C N head (p .ends) few in
       let is′ : along (field t 6) (suc N) head ≡ l = along-more (field t 6) C (suc N) head (p .ends) (omega arith) in
       let len : length l ≡ C = ends-length (field t 6) C head (p .ends) in
-      let range : All (λ x. (1 ≤ x) × (x < 1 + N)) l = zip l (along-low (field t 6) C head) (p .kind) in
+      let range : All (λ x. (1 ≤ x) × (x < 1 + N)) l =
+      all-map (λ x q. (q .0, omega (arith, q .1 .0))) l (all-zip (λ x. 1 ≤ x) (OfKind N) l (along-low (field t 6) C head) (p .kind)) in
       let met : (j : ℕ) → 1 ≤ j → j < 1 + N → times j l ≡ waits j =
       sum-tight (λ j. times j l) waits 1 N
       (λ j a b.
@@ -170,8 +170,7 @@ module _ (k : Chain) (t : List ℕ) where
       (λ q. rw q (once (field t 6) C head j (p .ends)))
       (λ q. rw q (omega (
         arith,
-        none-times (λ x. (x ≤ N) × (field t 0 x ≡ waitingKind k)) l j (p .kind)
-            (λ z. eqb-false (field t 0 j) (waitingKind k) q (z .1)),
+        none-times (OfKind N) l j (p .kind) (λ z. eqb-false (field t 0 j) (waitingKind k) q (z .1)),
       ))))
       (sum-times l 1 N range ∙ len ∙ waiting-sum 1 N) in
       all-true (chainTests (along (field t 6) N head)) (
@@ -184,10 +183,6 @@ module _ (k : Chain) (t : List ℕ) where
           ),
         ),
       )
-    where
-      zip : (l : List ℕ) → All (λ x. 1 ≤ x) l → All (λ x. (x ≤ N) × (field t 0 x ≡ waitingKind k)) l → All (λ x. (1 ≤ x) × (x < 1 + N)) l
-      zip [] a b = tt
-      zip (x ∷ xs) a b = ((a .0, omega (arith, b .0 .0)), zip xs (a .1) (b .1))
 
   chain-to : chainSound k t ≡ true → linked N C head 0 ≡ true
   unfolding chainSound
@@ -195,27 +190,25 @@ module _ (k : Chain) (t : List ℕ) where
       let l = along (field t 6) N head in
       let at = all-at (chainTests l) e in
       let ends : Ends (field t 6) (length l) head = ends-of (field t 6) N head (leb-true (length (along (field t 6) (suc N) head)) N (at 0)) in
-      let range : All (λ x. (1 ≤ x) × (x < 1 + N)) l = zip l (along-low (field t 6) N head) (every-all (λ i. leb i N) l (at 1)) in
+      let range : All (λ x. (1 ≤ x) × (x < 1 + N)) l =
+      all-map (λ x q. (q .0, omega (arith, leb-true x N (q .1)))) l
+      (all-zip (λ x. 1 ≤ x) (λ x. leb x N ≡ true) l (along-low (field t 6) N head) (every-all (λ i. leb i N) l (at 1))) in
       let met : (j : ℕ) → 1 ≤ j → j < 1 + N → times j l ≡ waits j =
       λ j p q. eqb-true (times j l) (waits j) (up-at (λ i. eqb (times i l) (waits i)) 1 N (at 2) j p q) in
       let len : length l ≡ C = sym (sum-times l 1 N range) ∙ sum-same (λ j. times j l) waits 1 N met ∙ sym (waiting-sum 1 N) in
       let ends′ : Ends (field t 6) C head = subst (λ (m : ℕ). Ends (field t 6) m head) len ends in
       let is : l ≡ along (field t 6) C head = along-more (field t 6) C N head ends′ (waiting-few 1 N) in
-      let kind : All (λ x. (x ≤ N) × (field t 0 x ≡ waitingKind k)) l = sort l range (λ x p q r. of-kind x (omega (arith, met x p q, r))) in
+      let kind : All (OfKind N) l = sort l range (λ x p q r. of-kind x (omega (arith, met x p q, r))) in
       to-linked N C head 0 (record { ends = ends′; kind = rw is at kind; previous = rw is at (at 3) })
     where
-      zip : (l : List ℕ) → All (λ x. 1 ≤ x) l → All (λ x. leb x N ≡ true) l → All (λ x. (1 ≤ x) × (x < 1 + N)) l
-      zip [] a b = tt
-      zip (x ∷ xs) a b = ((a .0, omega (arith, leb-true x N (b .0))), zip xs (a .1) (b .1))
-
       of-kind : (x : ℕ) → 0 < waits x → field t 0 x ≡ waitingKind k
       of-kind x p =
           cases (waitsIn k (field t 0 x))
           (λ e. eqb-true (field t 0 x) (waitingKind k) e)
           (λ e. absurd (let z : 0 < cond false 1 0 = rw e at p in omega arith))
 
-      sort : (l : List ℕ) → All (λ x. (1 ≤ x) × (x < 1 + N)) l → ((x : ℕ) → 1 ≤ x → x < 1 + N → 0 < times x l → field t 0 x ≡ waitingKind k)
-          → All (λ x. (x ≤ N) × (field t 0 x ≡ waitingKind k)) l
+      sort : (l : List ℕ) → All (λ x. (1 ≤ x) × (x < 1 + N)) l
+          → ((x : ℕ) → 1 ≤ x → x < 1 + N → 0 < times x l → field t 0 x ≡ waitingKind k) → All (OfKind N) l
       sort [] r f = tt
       sort (y ∷ ys) r f = (
         (omega (arith, r .0 .1), f y (r .0 .0) (r .0 .1) (rw (eq-eqb y y refl) (omega arith))),
