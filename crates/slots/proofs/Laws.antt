@@ -1,5 +1,6 @@
--- A search over the words of the slots is the model's search over the slots; an id names a slot where three tests pass. Assumes nothing.
-use mathlib.Core.Path.{_≡_, refl, sym, ap, _∙_}
+-- A search over the words of the slots is the model's search over the slots; an id names a slot where three tests pass; and words that are cleared one
+-- after another. Assumes nothing.
+use mathlib.Core.Path.{_≡_, refl, sym, ap, ap₂, _∙_}
 use Prim.Native.Nat.{ℕ, zero, suc, _+_, _-_, _≤_, _<_}
 use native.Mathlib.Numerals.{add-one}
 use native.Mathlib.Omega.{arith}
@@ -11,7 +12,7 @@ use lib.Dec.{eqb}
 use borrow.Author.Tests.{eq-eqb, ne-eqb}
 use Rattle.model.specs.State.{Slot, slotAt, lowest, idBase, indexOf, names}
 use Rattle.model.specs.Directives.{lowestFree, lowestNamed}
-use Rattle.model.specs.Words.{word, field, read, slotsFrom}
+use Rattle.model.specs.Words.{word, field, read, slotFrom, slotsFrom}
 use Rattle.model.proofs.ListLaws.{cases}
 use Rattle.model.proofs.ReadBack.{slots-length, slot-read}
 use Rattle.model.proofs.Refused.{Named, named, named-true}
@@ -20,21 +21,18 @@ use Rattle.slots.specs.Search.{lowestWith, namedSlot}
 -- ---- the lowest slot
 
 module _ (t : List ℕ) where
-  lowest-kind : (v i m : ℕ) → lowest (λ x. eqb (x .kind) v) i (slotsFrom t i m) ≡ lowestWith t 0 v i m
+  -- by the part of a slot that word f spells
+  lowest-by : (part : Slot → ℕ) (f : ℕ) → ((i : ℕ) → part (slotFrom t i) ≡ field t f i) → (v i m : ℕ)
+      → lowest (λ x. eqb (part x) v) i (slotsFrom t i m) ≡ lowestWith t f v i m
   unfolding lowestWith
-  lowest-kind v i zero = refl
-  lowest-kind v i (suc m) = ap (λ (n : ℕ). cond (eqb (field t 0 i) v) i n) (lowest-kind v (suc i) m)
-
-  lowest-name : (v i m : ℕ) → lowest (λ x. eqb (x .name) v) i (slotsFrom t i m) ≡ lowestWith t 1 v i m
-  unfolding lowestWith
-  lowest-name v i zero = refl
-  lowest-name v i (suc m) = ap (λ (n : ℕ). cond (eqb (field t 1 i) v) i n) (lowest-name v (suc i) m)
+  lowest-by part f is v i zero = refl
+  lowest-by part f is v i (suc m) = ap₂ (λ (w n : ℕ). cond (eqb w v) i n) (is i) (lowest-by part f is v (suc i) m)
 
   pub free-found : lowestFree (read t) ≡ lowestWith t 0 0 1 (word t 0)
-  free-found = lowest-kind 0 1 (word t 0)
+  free-found = lowest-by (λ x. x .kind) 0 (λ i. refl) 0 1 (word t 0)
 
   pub name-found : (name : ℕ) → lowestNamed (read t) name ≡ lowestWith t 1 name 1 (word t 0)
-  name-found name = lowest-name name 1 (word t 0)
+  name-found name = lowest-by (λ x. x .name) 1 (λ i. refl) name 1 (word t 0)
 
   -- what the loop has yet to look at
   module _ (f v n i : ℕ) (in-loop : i ≤ n) where

@@ -3,7 +3,7 @@ use mathlib.Core.Path.{_≡_, refl, ap, _∙_}
 use mathlib.Core.List.{_++_}
 use Prim.Native.Nat.{ℕ, _≤_, _-_}
 use native.Mathlib.Omega.{arith}
-use lib.ListN.{drop, replicate}
+use lib.ListN.{length, drop, replicate}
 use Rattle.slots.proofs.Laws.{clear-on, clear-length}
 use Rattle.slots.proofs.clear.Statement.{statement}
 use Rattle.slots.proofs.clear.Tie as tie
@@ -14,20 +14,17 @@ Inv-loop t₀ n i₀ t i = (i ≤ n) × (t ≡ replicate i 0 ++ drop i t₀)
 abbrev μ-loop : tie.MeasureT-loop
 μ-loop t₀ n i₀ t i = n - i
 
+long : (c : tie.At-loop Inv-loop μ-loop) → length (c .loop .t) ≡ length (c .before .args .t .now)
+long c = let l = c .loop in clear-length (c .before .args .t .now) (l .t) (l .i) (omega arith) (l .inv .1)
+
 loop-holds : tie.Need-loop-holds Inv-loop μ-loop
 loop-holds c = (omega arith, refl)
 
 mul-t : tie.Need-mul-t Inv-loop μ-loop
-mul-t c =
-    let start = c .before .before in
-    let l = c .before .loop in
-    omega (arith, clear-length (start .args .t .now) (l .t) (l .i) (omega arith) (l .inv .1))
+mul-t c = omega (arith, long (c .before))
 
 slice-write-t : tie.Need-slice-write-t Inv-loop μ-loop
-slice-write-t c =
-    let start = c .before .before in
-    let l = c .before .loop in
-    omega (arith, clear-length (start .args .t .now) (l .t) (l .i) (omega arith) (l .inv .1))
+slice-write-t c = omega (arith, long (c .before))
 
 add-i : tie.Need-add-i Inv-loop μ-loop
 add-i c = omega arith
@@ -42,10 +39,7 @@ loop-again c =
     (omega arith, clear-on (start .args .t .now) (l .t) (l .i) (omega arith) (l .inv .1))
 
 same-length : tie.Need-same-length Inv-loop μ-loop
-same-length c =
-    let start = c .before .before in
-    let l = c .before .loop in
-    clear-length (start .args .t .now) (l .t) (l .i) (omega arith) (l .inv .1)
+same-length c = long (c .before)
 
 returns : tie.Need-returns Inv-loop μ-loop
 returns c =

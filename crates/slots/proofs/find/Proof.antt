@@ -4,7 +4,7 @@ use mathlib.Core.Path.{_≡_, refl, _∙_, sym}
 use Prim.Native.Nat.{_+_, _-_, _≤_}
 use native.Mathlib.Omega.{arith}
 use Rattle.model.specs.Words.{word}
-use Rattle.model.proofs.SoundHolds.{sound-header}
+use Rattle.model.proofs.SoundHolds.{Header, sound-header}
 use Rattle.slots.specs.Search.{lowestWith}
 use Rattle.slots.proofs.Laws.{find-start, find-here, find-on, find-none}
 use Rattle.slots.proofs.find.Statement.{statement}
@@ -16,8 +16,11 @@ Inv-loop t f v n i₀ i = (1 ≤ i) × (i ≤ n + 1) × (n ≡ word t 0) × (low
 abbrev μ-loop : tie.MeasureT-loop
 μ-loop t f v n i₀ i = n + 1 - i
 
+header : (c : tie.Start Inv-loop μ-loop) → Header (c .args .t .now)
+header c = sound-header (c .args .t .now) (c .pre .0)
+
 shared-slice-read-n : tie.Need-shared-slice-read-n Inv-loop μ-loop
-shared-slice-read-n c = let h = sound-header (c .before .before .args .t .now) (c .before .before .pre .0) in omega arith
+shared-slice-read-n c = omega (arith, header (c .before .before))
 
 loop-holds : tie.Need-loop-holds Inv-loop μ-loop
 loop-holds c =
@@ -25,10 +28,7 @@ loop-holds c =
     (omega arith, omega arith, refl, find-start (a .t .now) (a .f) (a .v) (word (a .t .now) 0))
 
 get-requires : tie.Need-get-requires Inv-loop μ-loop
-get-requires c κs =
-    let start = c .before .before .before .before in
-    let h = sound-header (start .args .t .now) (start .pre .0) in
-    omega arith
+get-requires c κs = omega (arith, header (c .before .before .before .before))
 
 returns : tie.Need-returns Inv-loop μ-loop
 returns c =
@@ -38,10 +38,7 @@ returns c =
     sym (l .inv .3 ∙ find-here (a .t .now) (a .f) (a .v) n (l .i) (omega arith) (sym (c .before .get .ensures) ∙ c .if1 .taken))
 
 add-i : tie.Need-add-i Inv-loop μ-loop
-add-i c =
-    let start = c .before .before .before .before .before .before in
-    let h = sound-header (start .args .t .now) (start .pre .0) in
-    omega arith
+add-i c = omega (arith, header (c .before .before .before .before .before .before))
 
 loop-less : tie.Need-loop-less Inv-loop μ-loop
 loop-less c = omega arith

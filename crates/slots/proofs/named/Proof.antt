@@ -2,10 +2,13 @@
 use borrow.Author.Needs.{needs}
 use mathlib.Core.Path.{_∙_, sym}
 use native.Mathlib.Omega.{arith}
-use Rattle.model.proofs.SoundHolds.{sound-header}
+use Rattle.model.proofs.SoundHolds.{Header, sound-header}
 use Rattle.slots.proofs.Laws.{id-low, id-high, id-free, id-names}
 use Rattle.slots.proofs.named.Statement.{statement}
 use Rattle.slots.proofs.named.Tie as tie
+
+header : (c : tie.Start) → Header (c .args .t .now)
+header c = sound-header (c .args .t .now) (c .pre)
 
 returns : tie.Need-returns
 returns c = let a = c .before .before .args in id-low (a .t .now) (a .id) (c .if1 .taken)
@@ -14,16 +17,13 @@ sub-i : tie.Need-sub-i
 sub-i c = search needs
 
 shared-slice-read-if2 : tie.Need-shared-slice-read-if2
-shared-slice-read-if2 c = let s = c .before .before .before in let h = sound-header (s .args .t .now) (s .pre) in omega arith
+shared-slice-read-if2 c = omega (arith, header (c .before .before .before))
 
 returns-2 : tie.Need-returns-2
 returns-2 c = let a = c .before .before .before .before .args in id-high (a .t .now) (a .id) (c .if2 .taken)
 
 get-requires : tie.Need-get-requires
-get-requires c κs =
-    let s = c .before .before .before .before in
-    let h = sound-header (s .args .t .now) (s .pre) in
-    omega arith
+get-requires c κs = omega (arith, header (c .before .before .before .before))
 
 returns-3 : tie.Need-returns-3
 returns-3 c =
