@@ -1,26 +1,23 @@
 -- The clock in the words of a table: words 1 to 4 are the clock's, and no other word depends on it, so that a store to them is the state with
 -- another clock; and which clock a step gives. Assumes nothing.
-use mathlib.Core.Path.{_≡_, refl, sym, ap, ap₂, _∙_}
+use mathlib.Core.Path.{_≡_, sym, ap, ap₂, _∙_}
 use mathlib.Core.Logic.{_≢_}
 use Prim.Native.Nat.{ℕ, suc, _+_, _*_, _≤_, _<_}
 use native.Mathlib.Omega.{arith}
 use mathlib.Core.Bool.{Bool, true, cond}
-use mathlib.Core.List.{List, [], _∷_}
+use mathlib.Core.List.{List, _∷_}
 use lib.ListN.{length, set, drop}
 use lib.Seq.{getD-set-other, set-getD}
 use borrow.Author.Tests.{eq-eqb, ne-eqb, lt-ltb, le-ltb}
 use Rattle.calendar.specs.Calendar.{lastSecond}
-use Rattle.model.specs.State.{Slot, Clock, State, reclock}
+use Rattle.model.specs.State.{Clock, State, reclock}
 use Rattle.model.specs.Directives.{clockAt, clockStep}
-use Rattle.model.specs.Words.{first, slotWords, allSlots, over, word, read}
+use Rattle.model.specs.Words.{first, allSlots, over, word, read}
 use Rattle.model.proofs.WellFormed.{Holds}
 use Rattle.model.proofs.ClockSteps.{clock-unset}
+use Rattle.links.proofs.Storing.{same-slots}
 
 -- ---- the words
-
-slots-same : (s : State) (c : Clock) (i : ℕ) (xs : List Slot) (rest : List ℕ) → allSlots s i xs rest ≡ allSlots (reclock s c) i xs rest
-slots-same s c i [] rest = refl
-slots-same s c i (x ∷ xs) rest = ap (slotWords s i x) (slots-same s c (suc i) xs rest)
 
 -- the words of s with words 2 to 4 as given
 abbrev withClock : State → ℕ → ℕ → ℕ → List ℕ → List ℕ
@@ -30,7 +27,7 @@ withClock s isSet second into rest =
 module _ (t : List ℕ) (s : State) (is : over s t ≡ t) (second into : ℕ) where
   same : allSlots s 1 (s .slots) (drop (10 + 8 * length (s .slots)) t)
       ≡ allSlots (reclock s (clockAt (s .clock) second into)) 1 (s .slots) (drop (10 + 8 * length (s .slots)) t)
-  same = slots-same s (clockAt (s .clock) second into) 1 (s .slots) (drop (10 + 8 * length (s .slots)) t)
+  same = sym (same-slots s (s .slots) (clockAt (s .clock) second into) 1 (s .slots) (drop (10 + 8 * length (s .slots)) t))
 
   -- the clock is set to a second
   clock-placed : set (set (set t 2 1) 3 second) 4 into ≡ over (reclock s (clockAt (s .clock) second into)) t

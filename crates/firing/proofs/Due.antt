@@ -18,15 +18,23 @@ use Rattle.model.specs.Words.{word, field, headWord, slotFrom, read, over}
 use Rattle.model.specs.Outcome.{entryWords}
 use Rattle.model.proofs.ListLaws.{all-map, keep-all, keep-none}
 use Rattle.model.proofs.WellFormed.{timesIn, Holds}
-use Rattle.model.proofs.Chains.{times-own, without-none, other, idle-not-waiting, once-either}
+use Rattle.model.proofs.Chains.{times-own, without-none, other, once-either}
 use Rattle.model.proofs.Spelling.{length-over}
 use Rattle.model.proofs.ReadBack.{slots-length, slot-read}
-use Rattle.model.proofs.Steps.{rechain-slots, rechain-own, chained-stopped, length-stopped, length-fire}
+use Rattle.model.proofs.Steps.{rechain-slots, rechain-own, length-fire, room-fire, chained-fire}
 use Rattle.links.specs.Places.{InTable}
+use Rattle.links.proofs.NextState.{Next, next-read, next-holds, next-then}
+use Rattle.links.proofs.Restart.{stoppedAt, stop-next}
 use Rattle.firing.specs.Lists.{Room, FiresOne, Fires}
 use Rattle.firing.proofs.Entries.{listed-idle}
 use Rattle.firing.proofs.Heads.{Front, front, no-front}
-use Rattle.firing.proofs.NextState.{Next, next-start, next-read, next-holds, next-then, next-fires}
+
+-- ---- a firing, as one of the steps that follow one another
+
+pub next-fires : {t : List ℕ} {s : State} {u : List ℕ} → Next t s u → {k : Chain} {limit : ℕ} {l l′ : List ℕ} {n m : ℕ} {v : List ℕ}
+    → Fires k u l limit n m v l′ → Next t (fire k limit s) v
+next-fires {s = s} x {k} {limit} f =
+    next-then x (fire k limit) (chained-fire k limit s (x .holds .chained)) (length-fire k limit s) (room-fire k limit s) (f .table)
 
 -- ---- the first link of a chain fires
 
@@ -108,9 +116,9 @@ module _ {k : Chain} {t l : List ℕ} {limit n i : ℕ} (r : Room k t l limit n)
       subst (λ (c : List Link). timesIn c (a .entry .slot) + timesIn (chainOf (other k) (read t)) (a .entry .slot) ≤ 1) (a .whole)
       (once-either (read t) (r .holds .chained) k (a .entry .slot))
 
-  stopped-is : stopped (read t) i (idled (slotAt (read t .slots) i)) ≡ after a
+  stopped-is : stoppedAt t i ≡ after a
   stopped-is =
-      ap (λ (j : ℕ). stopped (read t) j (idled (slotAt (read t .slots) j))) (a .slot)
+      ap (stoppedAt t) (a .slot)
       ∙ stopped-first k (read t) (a .entry) (a .back) (a .whole)
       (omega (arith, once, times-own (a .entry) (a .back))) (omega (arith, once, times-own (a .entry) (a .back)))
 
@@ -123,12 +131,8 @@ module _ {k : Chain} {t l : List ℕ} {limit n i : ℕ} (r : Room k t l limit n)
       λ j. (idBase + a .slot j) ∷ x j .routine ∷ x j .userData ∷ es
 
   module _ {t′ l′ : List ℕ} (e : FiresOne t l n i t′ l′) where
-    next : Next t (stopped (read t) i (idled (slotAt (read t .slots) i))) t′
-    next =
-        let x = slotAt (read t .slots) i in
-        next-then (next-start (r .holds)) (λ s. stopped s i (idled (slotAt (s .slots) i)))
-        (chained-stopped (read t) (r .holds .chained) i (idled x) (a .low) (a .high) (λ j. idle-not-waiting j (x .kind)))
-        (length-stopped (read t) i (idled x)) refl (e .table)
+    next : Next t (stoppedAt t i) t′
+    next = stop-next t i (one-fits .0) t′ (e .table)
 
     read-after : read t′ ≡ after a
     read-after = next-read next ∙ stopped-is
@@ -155,7 +159,7 @@ module _ {k : Chain} {t l : List ℕ} {limit n i : ℕ} (r : Room k t l limit n)
         let later = due k limit (read t′) in
         let slots : read t′ .slots ≡ idleAll (a .entry ∷ []) (read t .slots) =
         ap (λ (z : State). z .slots) read-after ∙ rechain-slots (read t) (idleAll (a .entry ∷ []) (read t .slots)) (a .back) k in
-        let same : fire k limit (stopped (read t) i (idled (slotAt (read t .slots) i))) ≡ fire k limit (read t) =
+        let same : fire k limit (stoppedAt t i) ≡ fire k limit (read t) =
         ap (fire k limit) stopped-is ∙ sym (fire-first k limit (read t) (a .entry) (a .back) (a .whole) low) in
         let es : map (listed (read t′ .slots)) later ≡ map (listed (read t .slots)) later =
         ap (λ (x : List Slot). map (listed x) later) slots ∙ listed-idle (a .entry ∷ []) (read t .slots) later in

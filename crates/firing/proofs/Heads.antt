@@ -7,12 +7,12 @@ use native.Mathlib.Omega.{arith}
 use mathlib.Core.List.{List, [], _∷_}
 use lib.ListN.{length}
 use Rattle.model.specs.declared.Chain.{Chain}
-use Rattle.model.specs.declared.Chain.the-variants.{ByTicks, ByDate}
 use Rattle.model.specs.State.{Link, chainOf}
-use Rattle.model.specs.Words.{first, difference, word, field, headWord, read}
+use Rattle.model.specs.Words.{first, word, field, headWord, read}
 use Rattle.model.proofs.WellFormed.{Holds}
 use Rattle.model.proofs.Spelling.{holds-parts}
-use Rattle.links.proofs.Middle.{mid-stands, own-within}
+use Rattle.links.proofs.Middle.{mid-stands, mid-own}
+use Rattle.links.proofs.Walk.{differ-zero}
 
 -- slot i is that of the first link of chain k
 pub record Front (k : Chain) (t : List ℕ) (i : ℕ) : Type 0 where
@@ -24,10 +24,6 @@ pub record Front (k : Chain) (t : List ℕ) (i : ℕ) : Type 0 where
   pub low : 1 ≤ i
   pub high : i ≤ length (read t .slots)
 
-difference-zero : (k : Chain) (n : ℕ) → difference k 0 n ≡ n
-difference-zero ByTicks n = omega arith
-difference-zero ByDate n = refl
-
 module _ (k : Chain) {t : List ℕ} {i : ℕ} (h : Holds t (read t)) (here : i ≡ word t (headWord k)) where
   head-is : i ≡ first (chainOf k (read t))
   head-is = here ∙ holds-parts t (read t) h .lay k .links 0 (λ p. absurd (omega arith))
@@ -37,7 +33,7 @@ module _ (k : Chain) {t : List ℕ} {i : ℕ} (h : Holds t (read t)) (here : i �
     where
       go : (c : List Link) → chainOf k (read t) ≡ c → chainOf k (read t) ≡ []
       go [] q = q
-      go (y ∷ ys) q = absurd (omega (arith, own-within k t (read t) h [] y ys q .0, head-is, ap first q))
+      go (y ∷ ys) q = absurd (omega (arith, mid-own k t (read t) h [] y ys q .0, head-is, ap first q))
 
   pub front : i ≢ 0 → Front k t i
   front n = go (chainOf k (read t)) refl
@@ -45,14 +41,14 @@ module _ (k : Chain) {t : List ℕ} {i : ℕ} (h : Holds t (read t)) (here : i �
       go : (c : List Link) → chainOf k (read t) ≡ c → Front k t i
       go [] q = absurd (n (head-is ∙ ap first q))
       go (y ∷ ys) q =
-          let in-table = own-within k t (read t) h [] y ys q in
+          let in-table = mid-own k t (read t) h [] y ys q in
           let e : i ≡ y .slot = head-is ∙ ap first q in
           record {
             entry = y;
             back = ys;
             whole = q;
             slot = e;
-            wait = ap (field t 3) e ∙ mid-stands k t (read t) h [] y ys q .wait ∙ difference-zero k (y .wait);
+            wait = ap (field t 3) e ∙ mid-stands k t (read t) h [] y ys q .wait ∙ differ-zero k (y .wait);
             low = omega arith;
             high = omega arith;
           }

@@ -21,10 +21,10 @@ use Rattle.model.proofs.Chains.{fits, fit-both}
 use Rattle.model.proofs.ReadBack.{slots-length}
 use Rattle.model.proofs.Steps.{chained-nearer, chained-reclock}
 use Rattle.model.proofs.SoundHolds.{sound-holds, sound-well-formed}
+use Rattle.links.proofs.NextState.{Next, next-start, next-read, next-holds, next-then}
 use Rattle.firing.specs.Lists.{Room, Fires}
 use Rattle.firing.proofs.Entries.{sets-append, entries-append, length-entries, sets-written, listed-idle}
-use Rattle.firing.proofs.NextState.{Next, next-start, next-read, next-holds, next-then, next-fires}
-use Rattle.firing.proofs.Due.{fires-list-length}
+use Rattle.firing.proofs.Due.{next-fires, fires-list-length}
 
 -- ---- the whole call
 
@@ -120,7 +120,8 @@ module _ (t list : List ℕ) (ok : sound t ≡ true) (long : 3 * word t 0 ≤ le
         pub second-is : word u₃ 3 ≡ clockStep (read t .clock) .second
         second-is = ap (λ (z : State). z .clock .second) (next-read after-clock)
 
-        pub ticked-is : {second m : ℕ} {u₄ list₄ : List ℕ} → Fires ByDate u₃ list₂ second n m u₄ list₄ → Leaves t list (tickedTo limit second (read t) list) m u₄ list₄
+        pub ticked-is : {second m : ℕ} {u₄ list₄ : List ℕ} → Fires ByDate u₃ list₂ second n m u₄ list₄
+            → Leaves t list (tickedTo limit second (read t) list) m u₄ list₄
         ticked-is {second} {m} {u₄} {list₄} f₃ =
             let s = read t in
             let first = due ByTicks limit (nearer s) in

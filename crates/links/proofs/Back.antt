@@ -12,7 +12,7 @@ use Rattle.model.specs.Words.{field, read}
 use Rattle.model.proofs.WellFormed.{timesIn, Holds}
 use Rattle.model.proofs.Chains.{once}
 use Rattle.model.proofs.Spelling.{holds-parts}
-use Rattle.links.proofs.Middle.{last-slot, last-wait, split, mid-stands, own-within, last-low}
+use Rattle.links.proofs.Middle.{last-slot, last-wait, split, all-mid, mid-stands, mid-own, last-low}
 use Rattle.links.proofs.Positions.{position, last-of}
 
 -- slot i of the interval chain, and the slot before it
@@ -23,10 +23,6 @@ pub record Before (t : List ℕ) (i : ℕ) : Type 0 where
   pub sum : waitAt (field t 7 i) (read t .ticking) + field t 3 i ≡ waitAt i (read t .ticking)
   pub fits : waitAt i (read t .ticking) ≤ field t 2 i
 
-all-mid : (P : Link → Type 0) (xs : List Link) (e : Link) (ys : List Link) → All P (xs ++ e ∷ ys) → P e
-all-mid P [] e ys h = h .0
-all-mid P (x ∷ xs) e ys h = all-mid P xs e ys (h .1)
-
 module _ (t : List ℕ) (h : Holds t (read t)) where
   pub none-before : (i : ℕ) → i ≡ 0 → 0 ≡ waitAt i (read t .ticking)
   none-before i e = sym (ap (λ (j : ℕ). waitAt j (read t .ticking)) e ∙ last-of ByTicks (read t) (h .chained) [] (read t .ticking) refl .wait)
@@ -35,7 +31,7 @@ module _ (t : List ℕ) (h : Holds t (read t)) where
   before-mid xs e ys q =
       let s = read t in
       let stands = mid-stands ByTicks t s h xs e ys q in
-      let within = own-within ByTicks t s h xs e ys q in
+      let within = mid-own ByTicks t s h xs e ys q in
       let left = last-of ByTicks s (h .chained) xs (e ∷ ys) q in
       let own = last-of ByTicks s (h .chained) (xs ++ (e ∷ [])) ys (q ∙ sym (append-assoc xs (e ∷ []) ys)) in
       let own-at : position (e .slot) (s .ticking) ≡ length xs + 1 =

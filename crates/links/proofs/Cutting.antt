@@ -24,15 +24,11 @@ use Rattle.model.proofs.ReadBack.{slots-length, slot-read}
 use Rattle.model.proofs.Steps.{chained-stopped}
 use Rattle.links.specs.Surgery.{fieldWord, relinked, taken, cutOut, Cuttable}
 use Rattle.links.specs.Places.{lastSlot, lastWait, InTable}
-use Rattle.links.proofs.Middle.{times-at, Split, split, sorted-next, linked-back, mid-stands, mid-once, mid-within, mid-sorted, last-low}
+use Rattle.links.proofs.Middle.{times-at, Split, split, all-mid, sorted-next, linked-back, mid-stands, mid-once, mid-within, mid-sorted, last-low}
 use Rattle.links.proofs.Surgery.{taken-none, taken-ticks, taken-date, edit-set, relinked-edit}
 use Rattle.links.proofs.Relinked.{times-but, Around, own-within, own-not-last, own-not-first, last-high, first-high, behind-within, led-front, led-back, edited}
 
 -- ---- one chain
-
-all-mid : (P : Link → Type 0) (xs : List Link) (e : Link) (ys : List Link) → All P (xs ++ e ∷ ys) → P e
-all-mid P [] e ys h = h .0
-all-mid P (x ∷ xs) e ys h = all-mid P xs e ys (h .1)
 
 -- a wait of the slot behind, after the slot before it left
 taken-is : (k : Chain) (t : List ℕ) (n w a b c : ℕ) → n ≢ 0 → field t 3 n ≡ difference k b c → w ≡ difference k a b → a ≤ b → b ≤ c
@@ -74,8 +70,9 @@ module _ (k : Chain) (t : List ℕ) (s : State) (h : Holds t s) (xs : List Link)
   taken-over y zs q =
       let rest = subst (Linked k t (e .slot) (e .wait)) q rest-linked in
       ap (λ (c : List Link). taken k t (first c) (field t 3 (e .slot))) q
-      ∙ taken-is k t (y .slot) (field t 3 (e .slot)) (lastWait 0 xs) (e .wait) (y .wait) (λ z. omega (arith, behind-within around y zs q .0)) (rest .0 .wait) (mid-stands k t s h xs e ys whole .wait)
-      (last-low k t s h xs e ys whole) (sorted-next xs e y zs (subst (λ (c : List Link). Sorted (λ w. w .wait) (xs ++ e ∷ c)) q (mid-sorted k t s h xs e ys whole)))
+      ∙ taken-is k t (y .slot) (field t 3 (e .slot)) (lastWait 0 xs) (e .wait) (y .wait) (λ z. omega (arith, behind-within around y zs q .0))
+      (rest .0 .wait) (mid-stands k t s h xs e ys whole .wait) (last-low k t s h xs e ys whole)
+      (sorted-next xs e y zs (subst (λ (c : List Link). Sorted (λ w. w .wait) (xs ++ e ∷ c)) q (mid-sorted k t s h xs e ys whole)))
 
   module _ (fits : (m : ℕ) → word t m < 4294967296) where
     -- what the slot behind takes over fits a word
@@ -133,7 +130,8 @@ module _ (k : Chain) (t : List ℕ) (s : State) (h : Holds t s) (xs : List Link)
       (λ j _. refl)
       (λ _. record { wait = edit .own 3 (omega arith); next = edit .own 6 (omega arith); previous = edit .own 7 (omega arith) })
       (stopped s i (idled x))
-      (ap (λ (z : Slot). rechain k s (putAt (s .slots) i z) (xs ++ ys)) new ∙ stopped-as k s i (idled x) (xs ++ ys) rest (omega (arith, around .once i, times-at xs e ys)))
+      (ap (λ (z : Slot). rechain k s (putAt (s .slots) i z) (xs ++ ys)) new
+      ∙ stopped-as k s i (idled x) (xs ++ ys) rest (omega (arith, around .once i, times-at xs e ys)))
       (chained-stopped s (h .chained) i (idled x) (own .0) (own .1) (λ m. idle-not-waiting m (x .kind)))
 
 -- ---- a table

@@ -107,7 +107,8 @@ module _ (k : Chain) (t : List ℕ) (s : State) (h : Holds t s) (xs : List Link)
     given-over : (y : Link) (zs : List Link) → ys ≡ y ∷ zs → given k t (first ys) w ≡ difference k (e .wait) (y .wait)
     given-over y zs q =
         ap (λ (c : List Link). given k t (first c) w) q
-        ∙ given-is k t (y .slot) w (lastWait 0 xs) (e .wait) (y .wait) (λ z. omega (arith, behind-within around y zs q .0)) (behind-wait y zs q) w-is up (past y zs q)
+        ∙ given-is k t (y .slot) w (lastWait 0 xs) (e .wait) (y .wait) (λ z. omega (arith, behind-within around y zs q .0))
+        (behind-wait y zs q) w-is up (past y zs q)
 
     open-mid : Open k t (lastSlot 0 xs) (e .slot) w
     open-mid = record {

@@ -29,6 +29,9 @@ last-wait b (x ∷ xs) w = last-wait (x .wait) xs w
 
 -- ---- how often a slot stands there
 
+pub times-more : (w : Link) (ws : List Link) (j : ℕ) → timesIn ws j ≤ timesIn (w ∷ ws) j
+times-more w ws j = cases (eqb (w .slot) j) (λ f. rw f (omega arith)) (λ f. rw f (omega arith))
+
 pub times-mid : (j : ℕ) (xs : List Link) (e : Link) (ys : List Link) → timesIn (xs ++ e ∷ ys) j ≡ timesIn (xs ++ ys) j + cond (eqb (e .slot) j) 1 0
 times-mid j xs e ys =
     count-append (λ w. eqb (w .slot) j) xs (e ∷ ys)
@@ -70,13 +73,13 @@ split i (w ∷ ws) e =
 
 -- ---- waits rise
 
-all-mid : (b : ℕ) (xs : List Link) (e : Link) (ys : List Link) → All (λ y. b ≤ y .wait) (xs ++ e ∷ ys) → b ≤ e .wait
-all-mid b [] e ys h = h .0
-all-mid b (x ∷ xs) e ys h = all-mid b xs e ys (h .1)
+pub all-mid : (P : Link → Type 0) (xs : List Link) (e : Link) (ys : List Link) → All P (xs ++ e ∷ ys) → P e
+all-mid P [] e ys h = h .0
+all-mid P (x ∷ xs) e ys h = all-mid P xs e ys (h .1)
 
 sorted-last : (b : ℕ) (xs : List Link) (e : Link) (ys : List Link) → b ≤ e .wait → Sorted (λ w. w .wait) (xs ++ e ∷ ys) → lastWait b xs ≤ e .wait
 sorted-last b [] e ys p h = p
-sorted-last b (x ∷ xs) e ys p h = sorted-last (x .wait) xs e ys (all-mid (x .wait) xs e ys (h .0)) (h .1)
+sorted-last b (x ∷ xs) e ys p h = sorted-last (x .wait) xs e ys (all-mid (λ y. x .wait ≤ y .wait) xs e ys (h .0)) (h .1)
 
 pub sorted-next : (xs : List Link) (e y : Link) (ys : List Link) → Sorted (λ w. w .wait) (xs ++ e ∷ y ∷ ys) → e .wait ≤ y .wait
 sorted-next [] e y ys h = h .0 .0
@@ -104,8 +107,8 @@ module _ (k : Chain) (t : List ℕ) (s : State) (h : Holds t s) (xs : List Link)
   pub mid-within : (j : ℕ) → 0 < timesIn (xs ++ e ∷ ys) j → (0 < j) × (j ≤ length (s .slots))
   mid-within j p = met-in-range s (h .chained) k j (subst (λ (c : List Link). 0 < timesIn c j) (sym whole) p)
 
-  pub own-within : (0 < e .slot) × (e .slot ≤ length (s .slots))
-  own-within = mid-within (e .slot) (omega (arith, times-at xs e ys))
+  pub mid-own : (0 < e .slot) × (e .slot ≤ length (s .slots))
+  mid-own = mid-within (e .slot) (omega (arith, times-at xs e ys))
 
   pub mid-sorted : Sorted (λ w. w .wait) (xs ++ e ∷ ys)
   mid-sorted = subst (Sorted (λ w. w .wait)) whole (h .chained .rises k)

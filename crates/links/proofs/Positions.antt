@@ -13,6 +13,7 @@ use Rattle.model.proofs.WellFormed.{timesIn, Chained}
 use Rattle.model.proofs.Chains.{times-own, once, met-in-range}
 use Rattle.model.proofs.Spelling.{absent}
 use Rattle.links.specs.Places.{lastSlot, lastWait}
+use Rattle.links.proofs.Middle.{times-more}
 
 -- the number of links up to slot i, its own counted: slot i is in so many tails of the chain; 0 where it is not there
 abbrev pub position : ℕ → List Link → ℕ
@@ -44,17 +45,14 @@ found x [] ys o =
     }
 found x (y ∷ xs) ys o =
     let j = lastSlot (y .slot) xs in
-    let f = found y xs ys (λ i. omega (arith, o i, fewer i)) in
+    let f = found y xs ys (λ i. omega (arith, o i, times-more x (y ∷ xs ++ ys) i)) in
     cases (eqb (x .slot) j)
     (λ e. absurd (let z : suc (timesIn (y ∷ xs ++ ys) j) ≤ 1 = rw e at (o j) in omega (arith, f .there)))
     (λ e. record {
       there = rw e (f .there);
-      at = omega (arith, f .at, f .there, o j, fewer j);
+      at = omega (arith, f .at, f .there, o j, times-more x (y ∷ xs ++ ys) j);
       wait = rw e (f .wait);
     })
-  where
-    fewer : (i : ℕ) → timesIn (y ∷ xs ++ ys) i ≤ timesIn (x ∷ y ∷ xs ++ ys) i
-    fewer i = cases (eqb (x .slot) i) (λ e. rw e (omega arith)) (λ e. rw e (omega arith))
 
 -- the last slot of the front xs of the chain c; 0 where the front is empty
 pub record Last (xs c : List Link) : Type 0 where

@@ -22,17 +22,14 @@ use Rattle.model.proofs.Chains.{times-own, other, both-chains, met-in-range}
 use Rattle.model.proofs.Spelling.{headWords, linkWord, link-field, Lay, Loose, Parts, holds-parts, parts-holds, Linked, linked-lay, holds-linked}
 use Rattle.model.proofs.Steps.{rechain-slots, rechain-clock, rechain-room, rechain-own, rechain-other}
 use Rattle.links.specs.Places.{lastSlot, lastWait}
-use Rattle.links.proofs.Middle.{times-mid, times-at}
+use Rattle.links.proofs.Middle.{times-more, times-mid, times-at}
 use Rattle.links.proofs.Surgery.{head-low, Edit, slotOf, own-slot, kept, kept-link, kept-head, kept-rest}
 
 -- ---- neighbours
 
-more : (w : Link) (ws : List Link) (j : ℕ) → timesIn ws j ≤ timesIn (w ∷ ws) j
-more w ws j = cases (eqb (w .slot) j) (λ f. rw f (omega arith)) (λ f. rw f (omega arith))
-
 last-of : (x : Link) (xs : List Link) → 0 < timesIn (x ∷ xs) (lastSlot (x .slot) xs)
 last-of x [] = omega (arith, times-own x [])
-last-of x (y ∷ ys) = omega (arith, last-of y ys, more x (y ∷ ys) (lastSlot (y .slot) ys))
+last-of x (y ∷ ys) = omega (arith, last-of y ys, times-more x (y ∷ ys) (lastSlot (y .slot) ys))
 
 last-met : (xs : List Link) → 0 < lastSlot 0 xs → 0 < timesIn xs (lastSlot 0 xs)
 last-met [] h = absurd (omega arith)
@@ -105,7 +102,7 @@ pub led-tail : (k : Chain) (t : List ℕ) (p b : ℕ) (xs ys : List Link) → ((
     → Led k t (lastSlot p xs) (lastWait b xs) ys
 led-tail k t p b [] ys low h = h
 led-tail k t p b (x ∷ xs) ys low h =
-    led-tail k t (x .slot) (x .wait) xs ys (λ j m. low j (omega (arith, m, more x xs j)))
+    led-tail k t (x .slot) (x .wait) xs ys (λ j m. low j (omega (arith, m, times-more x xs j)))
     (record { link = link-field k t (x .slot) (low (x .slot) (omega (arith, times-own x xs))) ∙ h .linked .0 .next; linked = h .linked .1 })
 
 pub holds-led : (t : List ℕ) (s : State) → Holds t s → (k : Chain) → Led k t 0 0 (chainOf k s)
@@ -121,7 +118,7 @@ module _ {k : Chain} {t u : List ℕ} {p l n q v i : ℕ} {ws : List ℕ} (edit 
       let at : (f : ℕ) → f < 8 → field u f (w .slot) ≡ field t f (w .slot) =
       λ f f8. kept edit (w .slot) f (own .0) f8 (own .1) (λ _. own .2) (λ _. own .3) (λ _. own .3) in (
         record { next = at 6 (omega arith) ∙ h .0 .next; previous = at 7 (omega arith) ∙ h .0 .previous; wait = at 3 (omega arith) ∙ h .0 .wait },
-        unmoved m (w .slot) (w .wait) ws (λ j m. a j (omega (arith, m, more w ws j))) (h .1),
+        unmoved m (w .slot) (w .wait) ws (λ j m. a j (omega (arith, m, times-more w ws j))) (h .1),
       )
 
   -- the links xs, whose last is p, are followed by c in t and by c′ in u
@@ -132,8 +129,8 @@ module _ {k : Chain} {t u : List ℕ} {p l n q v i : ℕ} {ws : List ℕ} (edit 
       let own = a (x .slot) (omega (arith, times-own x xs)) in
       let at : (f : ℕ) → f < 8 → f ≢ 6 → field u f (x .slot) ≡ field t f (x .slot) =
       λ f f8 f6. kept edit (x .slot) f (own .0) f8 (own .1) (λ z. absurd (f6 z)) (λ _. own .2) (λ _. own .2) in
-      let rest = front xs c c′ (x .slot) (x .wait) e (own .1) (omega (arith, one (x .slot), times-own x xs)) (λ j. omega (arith, one j, more x xs j))
-      (λ j m. a j (omega (arith, m, more x xs j)))
+      let rest = front xs c c′ (x .slot) (x .wait) e (own .1) (omega (arith, one (x .slot), times-own x xs)) (λ j. omega (arith, one j, times-more x xs j))
+      (λ j m. a j (omega (arith, m, times-more x xs j)))
       (record { link = link-field k t (x .slot) (own .0) ∙ h .linked .0 .next; linked = h .linked .1 }) g in
       record {
         link = kept-link edit o oi (λ r. omega (arith, last-of x xs, ap (timesIn (x ∷ xs)) (r ∙ sym e), out)) ∙ h .link;
@@ -160,7 +157,7 @@ module _ {k : Chain} {t u : List ℕ} {p l n q v i : ℕ} {ws : List ℕ} (edit 
           wait = rw e (edit .wait low ∙ ev y ys refl);
         },
         unmoved k (y .slot) (y .wait) ys (λ j m.
-            let g = a j (omega (arith, m, more y ys j)) in
+            let g = a j (omega (arith, m, times-more y ys j)) in
             (g .0, g .1, g .2, λ r. omega (arith, m, one (y .slot), times-own y ys, ap (timesIn ys) (r ∙ sym e))))
             (h .1),
       )

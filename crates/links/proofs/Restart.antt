@@ -1,6 +1,6 @@
 -- To stop and then to start is to start: the table after the stop holds the stopped state and is read as that, and what a start makes of it is
 -- what it makes of the state before. Assumes nothing.
-use mathlib.Core.Path.{_≡_, refl, sym, ap, ap₂, _∙_, subst}
+use mathlib.Core.Path.{_≡_, refl, ap, ap₂, _∙_}
 use Prim.Native.Nat.{ℕ}
 use native.Mathlib.Omega.{arith}
 use mathlib.Core.List.{List}
@@ -11,13 +11,13 @@ use Rattle.model.specs.State.{Slot, Link, State, slotAt, without}
 use Rattle.model.specs.Directives.{stopped, idled, queued, waitingAs, started}
 use Rattle.model.specs.Words.{over, field, read}
 use Rattle.model.proofs.Slots.{at-same, put-put}
-use Rattle.model.proofs.WellFormed.{Holds}
 use Rattle.model.proofs.Chains.{times-without, without-none, idle-not-waiting}
 use Rattle.model.proofs.Spelling.{holds-parts}
-use Rattle.model.proofs.ReadBack.{count-is, read-back, over-over, over-holds}
+use Rattle.model.proofs.ReadBack.{count-is, over-over}
 use Rattle.model.proofs.Steps.{length-stopped, chained-stopped, length-started}
 use Rattle.links.specs.Places.{InTable, IdleInTable}
 use Rattle.links.proofs.Cutting.{in-slots}
+use Rattle.links.proofs.NextState.{Next, next-start, next-read, next-holds, next-then}
 
 stopped-twice : (s : State) (i : ℕ) (x y : Slot) → stopped (stopped s i x) i y ≡ stopped s i y
 stopped-twice s i x y =
@@ -35,15 +35,12 @@ stoppedAt t i = stopped (read t) i (idled (slotAt (read t .slots) i))
 
 -- u is the table after the stop
 module _ (t : List ℕ) (i : ℕ) (h : InTable t i) (u : List ℕ) (is : u ≡ over (stoppedAt t i) t) where
-  held : Holds u (stoppedAt t i)
-  held =
+  pub stop-next : Next t (stoppedAt t i) u
+  stop-next =
       let x = slotAt (read t .slots) i in
-      let ok = chained-stopped (read t) (h .holds .chained) i (idled x) (h .low) (in-slots t i h) (λ k. idle-not-waiting k (x .kind)) in
-      subst (λ (w : List ℕ). Holds w (stoppedAt t i)) (sym is)
-      (over-holds t (read t) (stoppedAt t i) (h .holds) ok (length-stopped (read t) i (idled x)) refl)
-
-  read-now : read u ≡ stoppedAt t i
-  read-now = read-back u (stoppedAt t i) held
+      next-then (next-start (h .holds)) (λ s. stopped s i (idled (slotAt (s .slots) i)))
+      (chained-stopped (read t) (h .holds .chained) i (idled x) (h .low) (in-slots t i h) (λ k. idle-not-waiting k (x .kind)))
+      (length-stopped (read t) i (idled x)) refl is
 
   slot-now : slotAt (stoppedAt t i .slots) i ≡ idled (slotAt (read t .slots) i)
   slot-now = at-same (read t .slots) i (idled (slotAt (read t .slots) i)) (h .low) (in-slots t i h)
@@ -54,13 +51,13 @@ module _ (t : List ℕ) (i : ℕ) (h : InTable t i) (u : List ℕ) (is : u ≡ o
   pub idle-now : IdleInTable u i
   idle-now = record {
     in-table = record {
-      holds = subst (Holds u) (sym read-now) held;
+      holds = next-holds stop-next;
       low = h .low;
-      high = omega (arith, count-is u (stoppedAt t i) held, size-now, in-slots t i h);
+      high = omega (arith, count-is u (stoppedAt t i) (stop-next .holds), size-now, in-slots t i h);
     };
     idle = λ k.
         let kind : field u 0 i ≡ slotAt (stoppedAt t i .slots) i .kind =
-        ap (λ (x : Slot). x .kind) (holds-parts u (stoppedAt t i) held .slots i (h .low) (omega (arith, size-now, in-slots t i h))) in
+        ap (λ (x : Slot). x .kind) (holds-parts u (stoppedAt t i) (stop-next .holds) .slots i (h .low) (omega (arith, size-now, in-slots t i h))) in
         ap (waitsIn k) (kind ∙ ap (λ (x : Slot). x .kind) slot-now) ∙ idle-not-waiting k (slotAt (read t .slots) i .kind);
   }
 
@@ -69,7 +66,7 @@ module _ (t : List ℕ) (i : ℕ) (h : InTable t i) (u : List ℕ) (is : u ≡ o
   restarted k n interval r d v e =
       let s = stoppedAt t i in
       let x = slotAt (read t .slots) i in
-      e ∙ ap₂ (λ (z : State) (w : List ℕ). over (started k z i n interval r d) w) read-now is
+      e ∙ ap₂ (λ (z : State) (w : List ℕ). over (started k z i n interval r d) w) (next-read stop-next) is
       ∙ over-over s (started k s i n interval r d) t (length-started k s i n interval r d)
       ∙ ap (λ (z : State). over (queued k z i n) t)
       (stopped-twice (read t) i (idled x) (waitingAs k (slotAt (s .slots) i) interval r d)

@@ -16,7 +16,7 @@ use Rattle.model.proofs.ListLaws.{all-append}
 use Rattle.model.proofs.WellFormed.{Holds}
 use Rattle.model.proofs.Spelling.{linkWord, Stands, holds-parts}
 use Rattle.links.specs.Places.{At, upTo, lastSlot, lastWait}
-use Rattle.links.proofs.Middle.{last-slot, last-wait, mid-stands, own-within, last-low}
+use Rattle.links.proofs.Middle.{last-slot, last-wait, mid-stands, mid-own, last-low}
 use Rattle.links.proofs.Positions.{position, last-of}
 
 -- ---- what is left
@@ -33,7 +33,7 @@ differ-on : (k : Chain) (b w n : ℕ) → b ≤ w → w ≤ n → difference k (
 differ-on ByTicks b w n p q = omega arith
 differ-on ByDate b w n p q = refl
 
-differ-zero : (k : Chain) (n : ℕ) → n ≡ difference k 0 n
+pub differ-zero : (k : Chain) (n : ℕ) → difference k 0 n ≡ n
 differ-zero ByTicks n = omega arith
 differ-zero ByDate n = refl
 
@@ -77,7 +77,7 @@ walk-start k t n i h e = record {
   due = tt;
   before = refl;
   next = e ∙ holds-parts t (read t) h .lay k .links 0 (λ p. absurd (omega arith));
-  rest = differ-zero k n;
+  rest = sym (differ-zero k n);
 }
 
 -- the link of slot i, and those behind it
@@ -98,7 +98,7 @@ module _ {k : Chain} {t : List ℕ} {n p left i : ℕ} (a : Walked k t n p left 
       go : (ys : List Link) → a .back ≡ ys → At k (read t) n p left
       go [] q = found (ap (upTo n) (a .whole ∙ ap (λ (l : List Link). a .front ++ l) q) ∙ due-up n (a .front) [] (a .due) ∙ append-nil (a .front))
       go (y ∷ ys) q =
-          let low = own-within k t (read t) (a .holds) (a .front) y ys (a .whole ∙ ap (λ (l : List Link). a .front ++ l) q) .0 in
+          let low = mid-own k t (read t) (a .holds) (a .front) y ys (a .whole ∙ ap (λ (l : List Link). a .front ++ l) q) .0 in
           absurd (omega (arith, a .next, ap first q))
 
   module _ (some : i ≢ 0) where
@@ -110,7 +110,7 @@ module _ {k : Chain} {t : List ℕ} {n p left i : ℕ} (a : Walked k t n p left 
         go (y ∷ ys) q = record { entry = y; behind = ys; whole = a .whole ∙ ap (λ (l : List Link). a .front ++ l) q; slot = a .next ∙ ap first q }
 
     pub walk-inside : 8 * i + 10 ≤ length t
-    walk-inside = omega (arith, own-within k t (read t) (a .holds) (a .front) (here .entry) (here .behind) (here .whole) .1, here .slot, a .holds .long)
+    walk-inside = omega (arith, mid-own k t (read t) (a .holds) (a .front) (here .entry) (here .behind) (here .whole) .1, here .slot, a .holds .long)
 
     stands : Stands k t (lastSlot 0 (a .front)) (lastWait 0 (a .front)) (here .entry) (first (here .behind))
     stands = mid-stands k t (read t) (a .holds) (a .front) (here .entry) (here .behind) (here .whole)

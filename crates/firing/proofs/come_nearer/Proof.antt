@@ -5,47 +5,46 @@ use native.Mathlib.Omega.{arith}
 use lib.ListN.{set}
 use borrow.Author.Needs.{needs}
 use Rattle.model.specs.declared.Chain.the-variants.{ByTicks}
-use Rattle.model.specs.Words.{word}
+use Rattle.model.specs.Words.{word, read}
+use Rattle.model.proofs.WellFormed.{Holds}
 use Rattle.model.proofs.SoundHolds.{sound-holds}
-use Rattle.firing.proofs.Heads.{front}
+use Rattle.firing.proofs.Heads.{Front, front}
 use Rattle.firing.proofs.Nearer.{nearer-none, first-waits, nearer-some}
 use Rattle.firing.proofs.come_nearer.Statement.{statement}
 use Rattle.firing.proofs.come_nearer.Tie as tie
 
+holds : (c : tie.Start) → Holds (c .args .t .now) (read (c .args .t .now))
+holds c = sound-holds (c .args .t .now) (c .pre)
+
+-- there is a first interval timer
+first : (c : tie.Then1) → let t = c .before .before .before .args .t .now in Front ByTicks t (word t 5)
+first c = front ByTicks (holds (c .before .before .before)) refl (c .if1 .taken)
+
 slice-read-i : tie.Need-slice-read-i
-slice-read-i c = let entry = c .before .before in omega (arith, sound-holds (entry .args .t .now) (entry .pre) .long)
+slice-read-i c = omega (arith, holds (c .before .before) .long)
 
 get-requires : tie.Need-get-requires
-get-requires c κs =
-    let entry = c .before .before .before .before in
-    let h = sound-holds (entry .args .t .now) (entry .pre) in
-    (omega arith, omega (arith, h .long, front ByTicks h refl (c .before .if1 .taken) .high))
+get-requires c κs = let some = c .before in (omega arith, omega (arith, holds (some .before .before .before) .long, first some .high))
 
 sub-put : tie.Need-sub-put
 sub-put c =
-    let entry = c .before .before .before .before .before .before in
-    let h = sound-holds (entry .args .t .now) (entry .pre) in
-    omega (
-      arith,
-      c .before .get .ensures,
-      first-waits (entry .args .t .now) (entry .pre) (front ByTicks h refl (c .before .before .before .if1 .taken)),
-    )
+    let some = c .before .before .before in
+    let entry = some .before .before .before in
+    omega (arith, c .before .get .ensures, first-waits (entry .args .t .now) (entry .pre) (first some))
 
 put-requires : tie.Need-put-requires
 put-requires c κs =
-    let entry = c .before .before .before .before .before .before in
-    let h = sound-holds (entry .args .t .now) (entry .pre) in
-    (omega arith, omega (arith, h .long, front ByTicks h refl (c .before .before .before .if1 .taken) .high))
+    let some = c .before .before .before in (omega arith, omega (arith, holds (some .before .before .before) .long, first some .high))
 
 same-length : tie.Need-same-length
 same-length c = search needs
 
 returns : tie.Need-returns
 returns c =
-    let turn = c .before .before .before .before .before .before in
-    let entry = turn .before .before .before in
+    let some = c .before .before .before .before .before .before in
+    let entry = some .before .before .before in
     let t = entry .args .t .now in
-    nearer-some t (entry .pre) (front ByTicks (sound-holds t (entry .pre)) refl (turn .if1 .taken))
+    nearer-some t (entry .pre) (first some)
     (c .before .before .put .ensures ∙ ap (λ (w : ℕ). set t (2 + 8 * word t 5 + 3) (w - 1)) (c .before .before .before .before .get .ensures))
 
 returns-2 : tie.Need-returns-2

@@ -2,18 +2,17 @@
 use native.Mathlib.Omega.{arith}
 use borrow.Author.Needs.{needs}
 use Rattle.model.proofs.ReadBack.{slots-length}
+use Rattle.links.proofs.Cutting.{in-words}
 use Rattle.firing.proofs.fire_one.Statement.{statement}
 use Rattle.firing.proofs.fire_one.Tie as tie
 
 get-requires : tie.Need-get-requires
 get-requires c κs =
-    let in-table = c .before .before .before .pre .0 in
-    (omega arith, omega (arith, in-table .holds .long, slots-length (c .before .before .before .args .t .now)))
+    let entry = c .before .before .before in (omega arith, in-words (entry .args .t .now) (entry .args .i) (entry .pre .0))
 
 get-requires-2 : tie.Need-get-requires-2
 get-requires-2 c κs =
-    let entry = c .before .before .before .before .before in
-    (omega arith, omega (arith, entry .pre .0 .holds .long, slots-length (entry .args .t .now)))
+    let entry = c .before .before .before .before .before in (omega arith, in-words (entry .args .t .now) (entry .args .i) (entry .pre .0))
 
 add-put-entry : tie.Need-add-put-entry
 add-put-entry c =

@@ -4,19 +4,20 @@ use native.Mathlib.Omega.{arith}
 use lib.ListN.{length, length-set}
 use borrow.Author.Needs.{needs}
 use Rattle.links.specs.Surgery.{fieldWord}
-use Rattle.links.proofs.Storing.{slot-inside, store-words}
+use Rattle.links.proofs.Cutting.{in-words}
+use Rattle.links.proofs.Storing.{store-words}
 use Rattle.links.proofs.store.Statement.{statement}
 use Rattle.links.proofs.store.Tie as tie
 
 put-requires : tie.Need-put-requires
-put-requires c κs = let s = c .before .before in (omega arith, slot-inside (s .args .t .now) (s .args .i) (s .pre))
+put-requires c κs = let s = c .before .before in (omega arith, in-words (s .args .t .now) (s .args .i) (s .pre))
 
 fill-requires : tie.Need-fill-requires
 fill-requires c κs =
     let put = c .before .before .before .put in
     let s = c .before .before .before .before .before .before in
     let t = s .args .t .now in
-    omega (arith, slot-inside t (s .args .i) (s .pre), ap length (put .ensures), length-set t (fieldWord (s .args .i) 1) (s .args .name))
+    omega (arith, in-words t (s .args .i) (s .pre), ap length (put .ensures), length-set t (fieldWord (s .args .i) 1) (s .args .name))
 
 same-length : tie.Need-same-length
 same-length c = search needs

@@ -4,14 +4,10 @@ use mathlib.Core.Path.{_≡_, sym, ap, _∙_, subst}
 use Prim.Native.Nat.{ℕ}
 use mathlib.Core.List.{List}
 use lib.ListN.{length}
-use Rattle.model.specs.declared.Chain.{Chain}
 use Rattle.model.specs.State.{State}
-use Rattle.model.specs.Directives.{fire}
 use Rattle.model.specs.Words.{read, over}
 use Rattle.model.proofs.WellFormed.{Chained, Holds}
 use Rattle.model.proofs.ReadBack.{read-back, over-over, over-holds}
-use Rattle.model.proofs.Steps.{length-fire, room-fire, chained-fire}
-use Rattle.firing.specs.Lists.{Fires}
 
 -- the words u are those of s written over t
 pub record Next (t : List ℕ) (s : State) (u : List ℕ) : Type 0 where
@@ -37,7 +33,3 @@ module _ {t : List ℕ} {s : State} {u : List ℕ} (x : Next t s u) where
         is = at ∙ ap (over (f s)) (x .is) ∙ over-over s (f s) t e;
         holds = subst (λ (w : List ℕ). Holds w (f s)) (sym at) (over-holds u s (f s) (x .holds) c e r);
       }
-
-  pub next-fires : {k : Chain} {limit : ℕ} {l l′ : List ℕ} {n m : ℕ} {v : List ℕ} → Fires k u l limit n m v l′ → Next t (fire k limit s) v
-  next-fires {k} {limit} f =
-      next-then (fire k limit) (chained-fire k limit s (x .holds .chained)) (length-fire k limit s) (room-fire k limit s) (f .table)
