@@ -170,10 +170,13 @@ module _ (t : List ℕ) (i : ℕ) (h : InTable t i) where
     cuttable fits =
         let f = found in subst (Cuttable k t) (f .slot) (cuttable-mid k t (read t) (h .holds) (f .front) (f .entry) (f .back) (f .whole) fits)
 
-    pub stop-waiting : set (cutOut k t i) (fieldWord i 0) (idleKind k) ≡ over (stopped (read t) i (idled (slotAt (read t .slots) i))) t
-    stop-waiting =
+    -- the words after the steps of a stop
+    pub stop-waiting : {t₁ t₂ : List ℕ} → t₁ ≡ cutOut k t i → t₂ ≡ set t₁ (fieldWord i 0) (idleKind k)
+        → t₂ ≡ over (stopped (read t) i (idled (slotAt (read t .slots) i))) t
+    stop-waiting cut put =
         let f = found in
-        subst (λ (j : ℕ). idleKind k ≡ idleOf (slotAt (read t .slots) j .kind) → without j (chainOf k (read t)) ≡ f .front ++ f .back
+        put ∙ ap (λ (l : List ℕ). set l (fieldWord i 0) (idleKind k)) cut
+        ∙ subst (λ (j : ℕ). idleKind k ≡ idleOf (slotAt (read t .slots) j .kind) → without j (chainOf k (read t)) ≡ f .front ++ f .back
         → set (cutOut k t j) (fieldWord j 0) (idleKind k) ≡ over (stopped (read t) j (idled (slotAt (read t .slots) j))) t) (f .slot)
         (stop-mid k t (read t) (h .holds) (f .front) (f .entry) (f .back) (f .whole) (idleKind k))
         (sym (ap (λ (x : Slot). idleOf (x .kind)) slot-is ∙ ap idleOf waits ∙ idle-waiting k)) (f .rest)

@@ -1,6 +1,6 @@
 -- A timer that does not wait starts to: its slot put between xs and ys, the links of the chain up to its wait and beyond it, is one edit of
 -- the table, which then holds the started state. Assumes nothing.
-use mathlib.Core.Path.{_≡_, refl, sym, ap, _∙_, subst}
+use mathlib.Core.Path.{_≡_, refl, sym, ap, ap₂, _∙_, subst}
 use mathlib.Core.Logic.{_≢_}
 use Prim.Native.Nat.{ℕ, _≤_, _<_, zero-le}
 use native.Mathlib.Omega.{arith}
@@ -164,11 +164,13 @@ module _ (k : Chain) (t : List ℕ) (i : ℕ) (h : IdleInTable t i) (n p w : ℕ
       (h .in-table .low) (in-slots t i (h .in-table)) (in-none t i (h .in-table) (h .idle)) (last-up 0 n c zero-le) (first-beyond n c)
       w (at .word))
 
-  pub start-words : (interval r u : ℕ) → Within k n interval
-      → filled (putIn k t p i w) i (waitingKind k) interval r u ≡ over (started k (read t) i n interval r u) t
-  start-words interval r u ok =
+  -- the words after the steps of a start
+  pub start-words : (interval r u : ℕ) → Within k n interval → {kind : ℕ} {t₁ t₂ : List ℕ} → t₁ ≡ putIn k t p i w → kind ≡ waitingKind k
+      → t₂ ≡ filled t₁ i kind interval r u → t₂ ≡ over (started k (read t) i n interval r u) t
+  start-words interval r u ok put is fill =
       let c = chainOf k (read t) in
       let e : Link = record { slot = i; wait = n } in
-      rw (at .slot) (start-mid k t (read t) (h .in-table .holds) (upTo n c) e (beyond n c) (parted n c)
+      fill ∙ ap₂ (λ (l : List ℕ) (m : ℕ). filled l i m interval r u) put is
+      ∙ rw (at .slot) (start-mid k t (read t) (h .in-table .holds) (upTo n c) e (beyond n c) (parted n c)
       (h .in-table .low) (in-slots t i (h .in-table)) (in-none t i (h .in-table) (h .idle)) (last-up 0 n c zero-le) (first-beyond n c)
       w (at .word) interval r u ok (placed e c))

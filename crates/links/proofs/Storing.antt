@@ -43,7 +43,8 @@ store-words t (suc j) x h =
     let rest = drop (10 + 8 * length (s .slots)) t in
     ap (λ (u : List ℕ). spelt u (2 + 8 * suc j) x) (sym (h .holds .is))
     ∙ rw (length-set (s .slots) j x, at 1, at 0, at 2, at 4, at 5) (ap (λ (l : List ℕ). headWords s ++ l)
-    (put-slot s 1 j x (s .slots) rest (omega (arith, h .high, slots-length t)) ∙ sym (same-slots s (set (s .slots) j x) (s .clock) 1 (set (s .slots) j x) rest)))
+    (put-slot s 1 j x (s .slots) rest (omega (arith, h .high, slots-length t))
+    ∙ sym (same-slots s (set (s .slots) j x) (s .clock) 1 (set (s .slots) j x) rest)))
   where
     at : (f : ℕ) → 2 + 8 * suc j + f ≡ suc (suc (suc (suc (suc (suc (suc (suc (suc (suc (8 * j + f))))))))))
     at f = omega arith

@@ -1,6 +1,6 @@
 -- The words of a table after one slot went into a chain or out of it. `Edit` says what each word is: the eight words of the slot are a list, in
 -- which every store to that slot is a `set`; the neighbours' three words are named; all others are as before. Assumes nothing.
-use mathlib.Core.Path.{_≡_, refl, sym, _∙_}
+use mathlib.Core.Path.{_≡_, refl, sym, ap, _∙_}
 use mathlib.Core.Logic.{_≢_}
 use Prim.Native.Nat.{ℕ, zero, suc, _+_, _-_, _*_, _≤_, _<_}
 use native.Mathlib.Omega.{arith}
@@ -86,6 +86,13 @@ module _ (t : List ℕ) (w : ℕ) where
   pub given-date : (n : ℕ) → n ≢ 0 → given ByDate t n w ≡ field t 3 n
   given-date zero e = absurd (e refl)
   given-date (suc n) e = refl
+
+-- a relinking, by its steps
+pub relinked-by : (k : Chain) (t : List ℕ) (p l n q v i w x y : ℕ) {t₁ t₂ t₃ : List ℕ}
+    → t₁ ≡ set t (linkWord k p) l → t₂ ≡ joined t₁ n q v → t₃ ≡ threaded t₂ i w x y → t₃ ≡ relinked k t p l n q v i w x y
+unfolding relinked
+relinked-by k t p l n q v i w x y e f g =
+    g ∙ ap (λ (u : List ℕ). threaded u i w x y) (f ∙ ap (λ (u : List ℕ). joined u n q v) e)
 
 -- ---- an edit
 

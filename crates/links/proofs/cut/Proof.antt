@@ -1,5 +1,6 @@
 -- `links::cut` meets its contract: `cutOut` is what its steps do, with what was read before them. Assumes nothing.
-use Rattle.links.specs.Surgery.{relinked}
+use mathlib.Core.Path.{_∙_}
+use Rattle.links.proofs.Surgery.{relinked-by}
 use borrow.Author.Needs.{needs}
 use Rattle.links.proofs.cut.Statement.{statement}
 use Rattle.links.proofs.cut.Tie as tie
@@ -32,8 +33,20 @@ same-length : tie.Need-same-length
 same-length c = search needs
 
 returns : tie.Need-returns
-unfolding relinked
-returns c = cc
+returns c =
+    let threads = c .before .before in
+    let joins = threads .before .before .before .before in
+    let puts = joins .before .before .before .before in
+    let takes = puts .before .before in
+    let wait = takes .before .before in
+    let previous = wait .before .before in
+    let next = previous .before .before in
+    let a = next .before .before .before .args in
+    let n = next .get .result in
+    let p = previous .get2 .result in
+    relinked-by (a .chain) (a .t .now) p n n p (takes .take-over .result) (a .i) 0 0 0
+    (puts .put-link .ensures) (joins .join .ensures) (threads .thread .ensures)
+    ∙ rw (takes .take-over .ensures, wait .get3 .ensures, previous .get2 .ensures, next .get .ensures)
 
 pub cut-spec : {M : Type 1} → statement M
 cut-spec =

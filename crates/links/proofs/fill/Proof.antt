@@ -1,5 +1,9 @@
 -- `links::fill` meets its contract: its four stores in order. Assumes nothing.
-use Rattle.links.specs.Surgery.{filled}
+use mathlib.Core.Path.{ap, _∙_}
+use mathlib.Core.List.{List}
+use Prim.Native.Nat.{ℕ}
+use lib.ListN.{set}
+use Rattle.links.specs.Surgery.{fieldWord, filled}
 use borrow.Author.Needs.{needs}
 use Rattle.links.proofs.fill.Statement.{statement}
 use Rattle.links.proofs.fill.Tie as tie
@@ -21,7 +25,16 @@ same-length c = search needs
 
 returns : tie.Need-returns
 unfolding filled
-returns c = cc
+returns c =
+    let fourth = c .before .before in
+    let third = fourth .before .before .before .before in
+    let second = third .before .before .before .before in
+    let first = second .before .before .before .before in
+    let a = first .before .before .before .args in
+    fourth .put4 .ensures
+    ∙ ap (λ (l : List ℕ). set l (fieldWord (a .i) 5) (a .user-data)) (third .put3 .ensures
+    ∙ ap (λ (l : List ℕ). set l (fieldWord (a .i) 4) (a .routine)) (second .put2 .ensures
+    ∙ ap (λ (l : List ℕ). set l (fieldWord (a .i) 2) (a .interval)) (first .put .ensures)))
 
 pub fill-spec : {M : Type 1} → statement M
 fill-spec =

@@ -1,5 +1,6 @@
 -- `links::insert` meets its contract: `putIn` is what its steps do, with what was read before them. Assumes nothing.
-use Rattle.links.specs.Surgery.{relinked}
+use mathlib.Core.Path.{_∙_}
+use Rattle.links.proofs.Surgery.{relinked-by}
 use borrow.Author.Needs.{needs}
 use Rattle.links.proofs.insert.Statement.{statement}
 use Rattle.links.proofs.insert.Tie as tie
@@ -23,8 +24,17 @@ same-length : tie.Need-same-length
 same-length c = search needs
 
 returns : tie.Need-returns
-unfolding relinked
-returns c = cc
+returns c =
+    let threads = c .before .before in
+    let joins = threads .before .before .before .before in
+    let puts = joins .before .before .before .before in
+    let gives = puts .before .before in
+    let next = gives .before .before in
+    let a = next .before .before .before .args in
+    let n = next .follower .result in
+    relinked-by (a .chain) (a .t .now) (a .p) (a .i) n (a .i) (gives .give-over .result) (a .i) (a .w) n (a .p)
+    (puts .put-link .ensures) (joins .join .ensures) (threads .thread .ensures)
+    ∙ rw (gives .give-over .ensures, next .follower .ensures)
 
 pub insert-spec : {M : Type 1} → statement M
 insert-spec =

@@ -1,5 +1,4 @@
 -- `links::start_idle` meets its contract: the slot goes where `find_place` says, and the words are those of the started state. Assumes nothing.
-use mathlib.Core.Path.{_∙_}
 use native.Mathlib.Omega.{arith}
 use Rattle.links.proofs.Cutting.{in-words}
 use Rattle.links.proofs.Inserting.{opens, start-words}
@@ -35,9 +34,9 @@ returns c =
     let found = put .before .before .find-place in
     let start = put .before .before .before .before .before in
     let a = start .args in
-    c .before .before .fill .ensures ∙ (rw (c .before .before .before .waiting-kind .ensures, put .insert .ensures)
-    (start-words (a .chain) (a .t .now) (a .i) (start .pre .0) (a .wait) (found .result .before) (found .result .wait) (found .ensures)
-    (a .interval) (a .routine) (a .user-data) (start .pre .1)))
+    start-words (a .chain) (a .t .now) (a .i) (start .pre .0) (a .wait) (found .result .before) (found .result .wait) (found .ensures)
+    (a .interval) (a .routine) (a .user-data) (start .pre .1)
+    (put .insert .ensures) (c .before .before .before .waiting-kind .ensures) (c .before .before .fill .ensures)
 
 pub start-idle-spec : {M : Type 1} → statement M
 start-idle-spec =

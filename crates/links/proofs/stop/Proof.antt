@@ -32,8 +32,8 @@ returns c =
     let done = c .before .before .before .before .before .before in
     let asked = done .before .before .before in
     let start = asked .before .before .before in
-    c .before .before .put .ensures ∙ (rw (done .cut .ensures)
-    (stop-waiting (start .args .t .now) (start .args .i) (start .pre) ByTicks (sym (asked .get .ensures) ∙ done .before .before .if1 .taken)))
+    stop-waiting (start .args .t .now) (start .args .i) (start .pre) ByTicks (sym (asked .get .ensures) ∙ done .before .before .if1 .taken)
+    (done .cut .ensures) (c .before .before .put .ensures)
 
 cut-requires-2 : tie.Need-cut-requires-2
 cut-requires-2 c κs =
@@ -56,8 +56,8 @@ returns-2 c =
     let done = c .before .before .before .before .before .before in
     let asked = done .before .before .before .before in
     let start = asked .before .before .before in
-    c .before .before .put2 .ensures ∙ (rw (done .cut2 .ensures)
-    (stop-waiting (start .args .t .now) (start .args .i) (start .pre) ByDate (sym (asked .get .ensures) ∙ done .before .before .if2 .taken)))
+    stop-waiting (start .args .t .now) (start .args .i) (start .pre) ByDate (sym (asked .get .ensures) ∙ done .before .before .if2 .taken)
+    (done .cut2 .ensures) (c .before .before .put2 .ensures)
 
 same-length-3 : tie.Need-same-length-3
 same-length-3 c = search needs

@@ -1,5 +1,9 @@
 -- `links::thread` meets its contract: its three stores in order. Assumes nothing.
-use Rattle.links.specs.Surgery.{threaded}
+use mathlib.Core.Path.{ap, _∙_}
+use mathlib.Core.List.{List}
+use Prim.Native.Nat.{ℕ}
+use lib.ListN.{set}
+use Rattle.links.specs.Surgery.{fieldWord, threaded}
 use borrow.Author.Needs.{needs}
 use Rattle.links.proofs.thread.Statement.{statement}
 use Rattle.links.proofs.thread.Tie as tie
@@ -18,7 +22,14 @@ same-length c = search needs
 
 returns : tie.Need-returns
 unfolding threaded
-returns c = cc
+returns c =
+    let third = c .before .before in
+    let second = third .before .before .before .before in
+    let first = second .before .before .before .before in
+    let a = first .before .before .before .args in
+    third .put3 .ensures
+    ∙ ap (λ (l : List ℕ). set l (fieldWord (a .i) 7) (a .p)) (second .put2 .ensures
+    ∙ ap (λ (l : List ℕ). set l (fieldWord (a .i) 6) (a .n)) (first .put .ensures))
 
 pub thread-spec : {M : Type 1} → statement M
 thread-spec = tie.close (tie.spec put-requires put-requires-2 put-requires-3 same-length returns)
