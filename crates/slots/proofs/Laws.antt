@@ -1,5 +1,5 @@
--- A search over the words of the slots is the model's search over the slots; an id names a slot where three tests pass; and words that are cleared one
--- after another. Assumes nothing.
+-- A search over the words of the slots is the model's search over the slots; an id names a slot where three tests pass; words that are cleared
+-- one after another are zeros, and the rest stays. Assumes nothing.
 use mathlib.Core.Path.{_≡_, refl, sym, ap, ap₂, _∙_}
 use Prim.Native.Nat.{ℕ, zero, suc, _+_, _-_, _≤_, _<_}
 use native.Mathlib.Numerals.{add-one}
