@@ -2,7 +2,7 @@
 -- where they stand. Each way through the loop takes one slot, and a step if it waits, off that; each early return is a part of it that fails.
 -- The measure is the slots ahead. Assumes nothing.
 use borrow.Author.Needs.{needs}
-use Prim.Native.Nat.{ℕ, _+_, _-_, _*_}
+use Prim.Native.Nat.{ℕ, _+_, _-_, _*_, _≤_}
 use mathlib.Core.Path.{_≡_, sym, _∙_}
 use mathlib.Core.Bool.{Bool, true}
 use mathlib.Core.List.{List}
@@ -49,6 +49,9 @@ tick c = stepTested ByTicks (turn c) (word (turn c) 0) (standing (c .loop .tick-
 
 abbrev date : tie.At-loop Inv-loop μ-loop → Bool
 date c = stepTested ByDate (turn c) (word (turn c) 0) (standing (c .loop .date-at) (c .loop .date-before) (c .loop .date))
+
+in-range : (c : tie.In-loop Inv-loop μ-loop) → c .before .loop .i ≤ word (turn (c .before)) 0
+in-range c = omega arith
 
 slot-passed : (c : tie.Else3 Inv-loop μ-loop) → let l = c .before .before .before in slotTested (turn l) (l .loop .i) ≡ true
 slot-passed c = passed (c .before .slot-tested .ensures) (c .if3 .left)
@@ -98,10 +101,10 @@ loop-holds : tie.Need-loop-holds Inv-loop μ-loop
 loop-holds c = let h = c .before .before .before .before in begin _ (header (h .before .before)) (heads h)
 
 slot-tested-requires : tie.Need-slot-tested-requires Inv-loop μ-loop
-slot-tested-requires c κs = inside (c .before .loop .inv) (c .loop-test .taken)
+slot-tested-requires c κs = inside (c .before .loop .inv) (in-range c)
 
 returns-3 : tie.Need-returns-3 Inv-loop μ-loop
-returns-3 c = slot-fails (c .before .before .before .loop .inv) (c .before .before .loop-test .taken) (failed (c .before .slot-tested .ensures) (c .if3 .taken))
+returns-3 c = slot-fails (c .before .before .before .loop .inv) (in-range (c .before .before)) (failed (c .before .slot-tested .ensures) (c .if3 .taken))
 
 get-requires : tie.Need-get-requires Inv-loop μ-loop
 get-requires c κs = omega arith
@@ -117,7 +120,7 @@ returns-4 c =
     let kind = c .before .before in
     let slot = kind .before .before in
     let l = slot .before .before .before in
-    tick-fails (l .loop .inv) (slot .before .before .loop-test .taken) (slot-passed slot) (four kind)
+    tick-fails (l .loop .inv) (in-range (slot .before .before)) (slot-passed slot) (four kind)
     (failed {b = tick l} (c .before .tick-tested .ensures) (c .if5 .taken))
 
 get-requires-2 : tie.Need-get-requires-2 Inv-loop μ-loop
@@ -133,7 +136,7 @@ get-requires-3 : tie.Need-get-requires-3 Inv-loop μ-loop
 get-requires-3 c κs = omega (arith, in-ticks _ _ _ (tick-passed (c .before .before)))
 
 loop-less : tie.Need-loop-less Inv-loop μ-loop
-loop-less c = let l = c .before .before .before .before .before .before .before .before .before in fewer (l .before .loop .inv) (l .loop-test .taken)
+loop-less c = let l = c .before .before .before .before .before .before .before .before .before in fewer (l .before .loop .inv) (in-range l)
 
 loop-again : tie.Need-loop-again Inv-loop μ-loop
 loop-again c =
@@ -143,7 +146,7 @@ loop-again c =
     let l = slot .before .before .before in
     let fits = l .before .shared-slice-known5 .given (2 + 8 * l .loop .tick-at + 2) in
     rw (c .get3 .ensures, c .before .wide .ensures, c .before .before .get2 .ensures)
-    (pass-tick (l .loop .inv) (slot .before .before .loop-test .taken) (slot-passed slot) (four kind) (tick-passed step) (fits .fits))
+    (pass-tick (l .loop .inv) (in-range (slot .before .before)) (slot-passed slot) (four kind) (tick-passed step) (fits .fits))
 
 date-tested-requires : tie.Need-date-tested-requires Inv-loop μ-loop
 date-tested-requires c κs = c .before .before .before .before .before .before .loop .inv .long
@@ -153,7 +156,7 @@ returns-5 c =
     let kind = c .before .before in
     let slot = kind .before .before .before in
     let l = slot .before .before .before in
-    date-fails (l .loop .inv) (slot .before .before .loop-test .taken) (slot-passed slot) (five kind)
+    date-fails (l .loop .inv) (in-range (slot .before .before)) (slot-passed slot) (five kind)
     (failed {b = date l} (c .before .date-tested .ensures) (c .if7 .taken))
 
 get-requires-4 : tie.Need-get-requires-4 Inv-loop μ-loop
@@ -163,7 +166,7 @@ get-requires-5 : tie.Need-get-requires-5 Inv-loop μ-loop
 get-requires-5 c κs = omega (arith, in-dates _ _ _ (date-passed (c .before)))
 
 loop-less-2 : tie.Need-loop-less-2 Inv-loop μ-loop
-loop-less-2 c = let l = c .before .before .before .before .before .before .before .before .before in fewer (l .before .loop .inv) (l .loop-test .taken)
+loop-less-2 c = let l = c .before .before .before .before .before .before .before .before .before in fewer (l .before .loop .inv) (in-range l)
 
 loop-again-2 : tie.Need-loop-again-2 Inv-loop μ-loop
 loop-again-2 c =
@@ -171,16 +174,16 @@ loop-again-2 c =
     let kind = step .before .before in
     let slot = kind .before .before .before in
     rw (c .get5 .ensures, c .before .get4 .ensures)
-    (pass-date (slot .before .before .before .loop .inv) (slot .before .before .loop-test .taken) (slot-passed slot) (five kind) (date-passed step))
+    (pass-date (slot .before .before .before .loop .inv) (in-range (slot .before .before)) (slot-passed slot) (five kind) (date-passed step))
 
 loop-less-3 : tie.Need-loop-less-3 Inv-loop μ-loop
-loop-less-3 c = let l = c .before .before .before .before .before in fewer (l .before .loop .inv) (l .loop-test .taken)
+loop-less-3 c = let l = c .before .before .before .before .before in fewer (l .before .loop .inv) (in-range l)
 
 loop-again-3 : tie.Need-loop-again-3 Inv-loop μ-loop
 loop-again-3 c =
     let slot = c .before .before .before in
     let kind = c .before .before .get .ensures in
-    pass-other (slot .before .before .before .loop .inv) (slot .before .before .loop-test .taken) (slot-passed slot)
+    pass-other (slot .before .before .before .loop .inv) (in-range (slot .before .before)) (slot-passed slot)
     (λ e. c .before .if4 .left (kind ∙ e)) (λ e. c .if6 .left (kind ∙ e))
 
 returns-6 : tie.Need-returns-6 Inv-loop μ-loop
