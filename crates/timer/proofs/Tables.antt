@@ -1,6 +1,6 @@
 -- What the calls do to a sound table, from what the steps below them did to it: a slot that an id names, a slot stored, a timer deleted,
 -- a slice laid out. Assumes nothing.
-use mathlib.Core.Path.{_≡_, refl, sym, ap, ap₂, _∙_, subst}
+use mathlib.Core.Path.{_≡_, refl, sym, ap, ap₂, _∙_}
 use Prim.Native.Nat.{ℕ, zero, suc, _+_, _*_, _≤_}
 use native.Mathlib.Omega.{arith}
 use mathlib.Core.Bool.{true, false, not}
@@ -12,14 +12,14 @@ use Rattle.model.specs.State.{Slot, Link, State, rechain, free, slotAt, without
 use Rattle.model.specs.Directives.{laidOut, lowestFree, stored, unused, stopped, idled}
 use Rattle.model.specs.Words.{slotWords, allSlots, write, over, word, read}
 use Rattle.model.specs.Sound.{sound}
-use Rattle.model.proofs.WellFormed.{Holds}
 use Rattle.model.proofs.Slots.{put-put}
-use Rattle.model.proofs.Chains.{idle-not-waiting}
 use Rattle.model.proofs.Searches.{found}
-use Rattle.model.proofs.ReadBack.{slots-length, read-back, over-over, over-holds}
+use Rattle.model.proofs.ReadBack.{slots-length, over-over}
 use Rattle.model.proofs.SoundHolds.{sound-holds, sound-header}
-use Rattle.model.proofs.Steps.{chained-stopped, length-stopped, length-stored}
+use Rattle.model.proofs.Steps.{length-stored}
 use Rattle.links.specs.Places.{InTable}
+use Rattle.links.proofs.NextState.{next-read}
+use Rattle.links.proofs.Restart.{stoppedAt, stop-next, idle-now}
 use Rattle.slots.specs.Search.{namedSlot}
 use Rattle.slots.proofs.Laws.{named-some, named-none}
 
@@ -60,36 +60,17 @@ module _ (t : List ℕ) (ok : sound t ≡ true) where
     pub created-is : {u : List ℕ} (name : ℕ) → u ≡ over (stored (read t) i (unused name)) t → u ≡ over (stored (read t) (lowestFree (read t)) (unused name)) t
     created-is name h = h ∙ ap (λ (k : ℕ). over (stored (read t) k (unused name)) t) (sym is)
 
-  module _ {i : ℕ} (at : InTable t i) {u : List ℕ} (e : u ≡ over (stopped (read t) i (idled (slotAt (read t .slots) i))) t) where
-    abbrev x : Slot
-    x = idled (slotAt (read t .slots) i)
-
-    abbrev s : State
-    s = stopped (read t) i x
-
-    stopped-holds : Holds u s
-    stopped-holds =
-        subst (λ (v : List ℕ). Holds v s) (sym e)
-        (over-holds t (read t) s (sound-holds t ok)
-        (chained-stopped (read t) (sound-holds t ok .chained) i x (at .low) (omega (arith, at .high, slots-length t))
-        (λ k. idle-not-waiting k (slotAt (read t .slots) i .kind)))
-        (length-stopped (read t) i x) refl)
-
-    stopped-read : read u ≡ s
-    stopped-read = read-back u s stopped-holds
-
+  module _ {i : ℕ} (at : InTable t i) {u : List ℕ} (e : u ≡ over (stoppedAt t i) t) where
     pub still-in-table : InTable u i
-    still-in-table =
-        let n : word u 0 ≡ word t 0 =
-        sym (slots-length u) ∙ ap (λ (r : State). length (r .slots)) stopped-read ∙ length-stopped (read t) i x ∙ slots-length t in
-        record { holds = subst (Holds u) (sym stopped-read) stopped-holds; low = at .low; high = omega (arith, at .high, n) }
+    still-in-table = idle-now t i at u e .in-table
 
     pub deleted-is : {v : List ℕ} → v ≡ over (stored (read u) i free) u → v ≡ over (stopped (read t) i free) t
     deleted-is h =
-        h ∙ ap₂ (λ (r : State) (w : List ℕ). over (stored r i free) w) stopped-read e
+        let s = stoppedAt t i in
+        h ∙ ap₂ (λ (r : State) (w : List ℕ). over (stored r i free) w) (next-read (stop-next t i at u e)) e
         ∙ over-over s (stored s i free) t (length-stored s i free)
         ∙ ap (λ (l : List Slot). over (rechain ByTicks (rechain ByDate (read t) l (without i (read t .dated))) l (without i (read t .ticking))) t)
-        (put-put (read t .slots) i x free)
+        (put-put (read t .slots) i (idled (slotAt (read t .slots) i)) free)
 
 -- ---- lay out
 
