@@ -52,7 +52,7 @@ returns-3 : tie.Need-returns-3
 returns-3 c =
     let first = c .before .before .before .before .before in
     let entry = first .before .before in
-    step-next (entry .args .t .now) (entry .pre .0) (first .if1 .left) (c .before .before .if2 .left) (c .if3 .taken)
+    step-next (entry .args .t .now) (entry .pre .0) (first .if1 .left) (c .before .before .if2 .left) (omega (arith, c .if3 .taken))
 
 returns-4 : tie.Need-returns-4
 returns-4 c =

@@ -11,7 +11,7 @@ header : (c : tie.Start) → Header (c .args .t .now)
 header c = sound-header (c .args .t .now) (c .pre)
 
 returns : tie.Need-returns
-returns c = let a = c .before .before .args in id-low (a .t .now) (a .id) (c .if1 .taken)
+returns c = let a = c .before .before .args in id-low (a .t .now) (a .id) (omega (arith, c .if1 .taken))
 
 sub-i : tie.Need-sub-i
 sub-i c = search needs
@@ -20,7 +20,7 @@ shared-slice-read-if2 : tie.Need-shared-slice-read-if2
 shared-slice-read-if2 c = omega (arith, header (c .before .before .before))
 
 returns-2 : tie.Need-returns-2
-returns-2 c = let a = c .before .before .before .before .args in id-high (a .t .now) (a .id) (c .if2 .taken)
+returns-2 c = let a = c .before .before .before .before .args in id-high (a .t .now) (a .id) (omega (arith, c .if2 .taken))
 
 get-requires : tie.Need-get-requires
 get-requires c κs = omega (arith, header (c .before .before .before .before))

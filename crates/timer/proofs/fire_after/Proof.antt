@@ -45,7 +45,7 @@ same-length-2 : tie.Need-same-length-2
 same-length-2 c = search needs
 
 returns-2 : tie.Need-returns-2
-returns-2 c = refuses _ _ InvalidNumber 1 (sure (c .before) .rule, tt) (eq-eqb _ 0 (c .if2 .taken)) refl
+returns-2 c = refuses _ _ InvalidNumber 1 (sure (c .before) .rule, tt) (eq-eqb (c .before .before .before .before .before .args .ticks) 0 (omega (arith, c .if2 .taken))) refl
 
 same-length-3 : tie.Need-same-length-3
 same-length-3 c = search needs

@@ -48,7 +48,7 @@ returns-3 : tie.Need-returns-3
 returns-3 c =
     let d = c .before .before in
     let s = sure (found d) in
-    done _ _ (0 ∷ []) _ [] (s .rule, (at d .rule, tt)) (no-ticks (at d) (λ z. c .if3 .taken (c .before .get .ensures ∙ z))) (same-table _ (s .ok)) refl
+    done _ _ (0 ∷ []) _ [] (s .rule, (at d .rule, tt)) (no-ticks (at d) (λ z. omega (arith, c .if3 .taken, c .before .get .ensures, z))) (same-table _ (s .ok)) refl
 
 ticks-to-requires : tie.Need-ticks-to-requires
 ticks-to-requires c κs =

@@ -1,13 +1,14 @@
 -- `timer::was_by_ticks` meets its contract, a test at a time. Assumes nothing.
 use borrow.Author.Tests.{eq-eqb, ne-eqb}
 use mathlib.Core.Path.{sym, ap}
+use native.Mathlib.Omega.{arith}
 use mathlib.Core.Bool.{Bool, _||_}
 use lib.Dec.{eqb}
 use Rattle.timer.proofs.was_by_ticks.Statement.{statement}
 use Rattle.timer.proofs.was_by_ticks.Tie as tie
 
 returns : tie.Need-returns
-returns c = let k = c .before .args .kind in sym (ap (λ (b : Bool). b || eqb k 4) (eq-eqb k 2 (c .if1 .taken)))
+returns c = let k = c .before .args .kind in sym (ap (λ (b : Bool). b || eqb k 4) (eq-eqb k 2 (omega (arith, c .if1 .taken))))
 
 returns-2 : tie.Need-returns-2
 returns-2 c = let k = c .before .args .kind in sym (ap (λ (b : Bool). b || eqb k 4) (ne-eqb k 2 (c .if1 .left)))
