@@ -14,6 +14,7 @@ use Rattle.calendar.specs.declared.Instant.{Instant}
 use Rattle.calendar.specs.declared.Instant.the-variants.{Second, NotValid}
 use Rattle.calendar.specs.Calendar.{valid, secondsOf, dateOf, instantOf, dateAnswer}
 use Rattle.calendar.proofs.Theorems.{second-answer, not-valid-answer, on-answer, past-answer}
+use Rattle.model.specs.declared.Chain.{Chain}
 use Rattle.model.specs.declared.Chain.the-variants.{ByDate}
 use Rattle.model.specs.Lists.{All}
 use Rattle.model.specs.Calls.{tick, setClock}
@@ -70,18 +71,22 @@ pub second-is : (w : WallTime) {s : ℕ} {i : Instant} → i ≡ instantOf w →
 second-is w {s} e n = second-answer w s e n .is
 
 -- it fires the dated timers, up to the second given
-pub set-clock-done : (t : List ℕ) (w : WallTime) (list : List ℕ) (s m : ℕ) (u list′ : List ℕ) → All (λ r. r .given ≡ false) (rules t (setClock w list))
-    → s ≡ secondsOf w → Leaves t list (movedTo ByDate s (read t) s list) m u list′
+pub set-clock-done : (t : List ℕ) (w : WallTime) (list : List ℕ) {k : Chain} {limit s m : ℕ} {u list′ : List ℕ}
+    → All (λ r. r .given ≡ false) (rules t (setClock w list)) → s ≡ secondsOf w
+    → Leaves t list (movedTo k limit (read t) s list) m u list′ → k ≡ ByDate → limit ≡ s
     → record { status = 0; answer = m ∷ []; table = u; list = list′ } ≡ outcome t (setClock w list)
-set-clock-done t w list s m u list′ none e l =
-    let k = subst (λ (d : ℕ). Leaves t list (movedTo ByDate d (read t) d list) m u list′) e l in
-    done t (setClock w list) (m ∷ []) u list′ none (k .answer) (k .table) (k .entries)
+set-clock-done t w list {k} {limit} {s} {m} {u} {list′} none e l chain to =
+    let dated = subst (λ (x : Chain). Leaves t list (movedTo x limit (read t) s list) m u list′) chain l in
+    let now = subst (λ (d : ℕ). Leaves t list (movedTo ByDate d (read t) s list) m u list′) to dated in
+    let left = subst (λ (d : ℕ). Leaves t list (movedTo ByDate d (read t) d list) m u list′) e now in
+    done t (setClock w list) (m ∷ []) u list′ none (left .answer) (left .table) (left .entries)
 
 -- ---- tick: it fires at no ticks left, and up to the second that the clock has come to
 
-pub tick-done : (t list : List ℕ) (second m : ℕ) (u list′ : List ℕ) → All (λ r. r .given ≡ false) (rules t (tick list))
-    → second ≡ clockStep (read t .clock) .second → Leaves t list (tickedTo 0 second (read t) list) m u list′
+pub tick-done : (t list : List ℕ) {limit second m : ℕ} {u list′ : List ℕ} → All (λ r. r .given ≡ false) (rules t (tick list))
+    → second ≡ clockStep (read t .clock) .second → Leaves t list (tickedTo limit second (read t) list) m u list′ → limit ≡ 0
     → record { status = 0; answer = m ∷ []; table = u; list = list′ } ≡ outcome t (tick list)
-tick-done t list second m u list′ none e l =
-    let k = subst (λ (d : ℕ). Leaves t list (tickedTo 0 d (read t) list) m u list′) e l in
-    done t (tick list) (m ∷ []) u list′ none (k .answer) (k .table) (k .entries)
+tick-done t list {limit} {second} {m} {u} {list′} none e l at =
+    let first = subst (λ (d : ℕ). Leaves t list (tickedTo d second (read t) list) m u list′) at l in
+    let left = subst (λ (d : ℕ). Leaves t list (tickedTo 0 d (read t) list) m u list′) e first in
+    done t (tick list) (m ∷ []) u list′ none (left .answer) (left .table) (left .entries)

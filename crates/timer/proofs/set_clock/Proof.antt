@@ -102,9 +102,9 @@ returns-4 c =
     let b = found d in
     let to = told .before .before .to-seconds .ensures in
     let got = told .second .given .1 in
-    set-clock-done (t b) _ (list b) _ _ _ _
+    set-clock-done (t b) _ (list b)
     (sure b .rule, (not-short (t b) (list b) (long d), (is-valid _ to got, tt))) (second-is _ to got)
-    (moved-is _ _ (sure b .ok) (long d) _ (moved .set-clock .ensures) (fired .fire .ensures))
+    (moved-is _ _ (sure b .ok) (long d) _ (moved .set-clock .ensures) (fired .fire .ensures)) refl refl
 
 pub set-clock-spec : {M : Type 1} → statement M
 set-clock-spec =

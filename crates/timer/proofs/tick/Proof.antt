@@ -122,8 +122,8 @@ returns-3 c =
     let f = fired clock in
     let x = d clock in
     let b = found x in
-    tick-done (t b) (list b) _ _ _ _ (sure b .rule, (not-short (t b) (list b) (long x), tt)) (stepped-second clock)
-    (ticked-is _ _ (sure b .ok) (long x) (near f .come-nearer .ensures) (f .fire .ensures) (clock .step-clock .ensures) (date .fire2 .ensures))
+    tick-done (t b) (list b) (sure b .rule, (not-short (t b) (list b) (long x), tt)) (stepped-second clock)
+    (ticked-is _ _ (sure b .ok) (long x) (near f .come-nearer .ensures) (f .fire .ensures) (clock .step-clock .ensures) (date .fire2 .ensures)) refl
 
 pub tick-spec : {M : Type 1} → statement M
 tick-spec =
