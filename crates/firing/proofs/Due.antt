@@ -4,6 +4,7 @@ use mathlib.Core.Path.{_≡_, refl, sym, ap, ap₂, _∙_, subst}
 use mathlib.Core.Logic.{_≢_}
 use Prim.Native.Nat.{ℕ, suc, _+_, _*_, _≤_, _<_}
 use native.Mathlib.Omega.{arith}
+use mathlib.Core.Bool.{false}
 use mathlib.Core.List.{List, [], _∷_, map}
 use lib.ListN.{length}
 use lib.Seq.{sets, length-sets}
@@ -11,17 +12,21 @@ use lib.Dec.{leb, ltb}
 use borrow.Author.Tests.{eq-eqb, le-leb, lt-leb, lt-ltb, le-ltb}
 use Rattle.model.specs.declared.Chain.{Chain}
 use Rattle.model.specs.declared.Chain.the-variants.{ByTicks, ByDate}
+use Rattle.model.specs.Kinds.{sameChain}
 use Rattle.model.specs.Lists.{keep, All, Sorted}
 use Rattle.model.specs.State.{Slot, Link, State, chainOf, rechain, slotAt, putAt, without, idBase, Fired, listed}
-use Rattle.model.specs.Directives.{stopped, idled, idleAll, due, fire}
+use Rattle.model.specs.Directives.{stopped, became, idled, firedAll, due, fire}
+use Rattle.model.specs.Directives as model
 use Rattle.model.specs.Words.{word, field, headWord, slotFrom, read, over}
 use Rattle.model.specs.Outcome.{entryWords}
 use Rattle.model.proofs.ListLaws.{all-map, keep-all, keep-none}
 use Rattle.model.proofs.WellFormed.{timesIn, Holds}
-use Rattle.model.proofs.Chains.{times-own, without-none, other, once-either}
+use Rattle.model.proofs.Chains.{times-own, without-none, once, once-apart}
+use Rattle.model.proofs.Each.{end, _&_}
+use Rattle.model.proofs.KindLaws.{any-kind, each-chain}
 use Rattle.model.proofs.Spelling.{length-over}
 use Rattle.model.proofs.ReadBack.{slots-length, slot-read}
-use Rattle.model.proofs.Steps.{rechain-slots, rechain-own, length-fire, room-fire, chained-fire}
+use Rattle.model.proofs.Steps.{rechain-slots, rechain-room, rechain-clock, rechain-own, rechain-apart, stopped-chain, length-fire, room-fire, chained-fire}
 use Rattle.links.specs.Places.{InTable}
 use Rattle.links.proofs.NextState.{Next, next-read, next-holds, next-then}
 use Rattle.links.proofs.Restart.{stoppedAt, stop-next}
@@ -40,28 +45,38 @@ next-fires {s = s} x {k} {limit} f =
 
 -- the state when it has stopped
 abbrev fired : Chain → State → Link → List Link → State
-fired k s y ys = rechain k s (idleAll (y ∷ []) (s .slots)) ys
+fired k s y ys = rechain k s (firedAll (y ∷ []) (s .slots)) ys
+
+-- two states are the same where their parts are
+same-state : (s s′ : State) → s .room ≡ s′ .room → s .slots ≡ s′ .slots → s .clock ≡ s′ .clock → ((m : Chain) → chainOf m s ≡ chainOf m s′) → s ≡ s′
+same-state s s′ room slots clock chains = λ d. record {
+  room = room d;
+  slots = slots d;
+  clock = clock d;
+  ticking = chains ByTicks d;
+  dated = chains ByDate d;
+}
+
+-- to fire is to stop
+fired-idle : (x : Slot) → idled x ≡ model.fired x
+fired-idle x =
+    ap (λ (n : ℕ). became n x) (any-kind (λ y. y .stopped ≡ y .fired) (refl & refl & refl & refl & refl & refl & end) (λ n _. refl) (x .kind))
 
 stopped-first : (k : Chain) (s : State) (y : Link) (ys : List Link) → chainOf k s ≡ y ∷ ys → timesIn ys (y .slot) ≡ 0
-    → timesIn (chainOf (other k) s) (y .slot) ≡ 0 → stopped s (y .slot) (idled (slotAt (s .slots) (y .slot))) ≡ fired k s y ys
+    → ((m : Chain) → sameChain m k ≡ false → timesIn (chainOf m s) (y .slot) ≡ 0)
+    → stopped s (y .slot) (idled (slotAt (s .slots) (y .slot))) ≡ fired k s y ys
 stopped-first k s y ys whole p q =
-    let slots = idleAll (y ∷ []) (s .slots) in
-    let own : without (y .slot) (chainOf k s) ≡ ys =
-    ap (without (y .slot)) whole ∙ rw (eq-eqb (y .slot) (y .slot) refl) (without-none (y .slot) ys p) in
-    either k (y .slot) (idled (slotAt (s .slots) (y .slot)))
-    ∙ ap₂ (λ (c d : List Link). rechain k (rechain (other k) s slots d) slots c) own (without-none (y .slot) (chainOf (other k) s) q) ∙ same k slots
-  where
-    either : (k : Chain) (i : ℕ) (x : Slot) → let slots = putAt (s .slots) i x in
-        stopped s i x ≡ rechain k (rechain (other k) s slots (without i (chainOf (other k) s))) slots (without i (chainOf k s))
-    either ByTicks i x = refl
-    either ByDate i x = refl
-
-    same : (k : Chain) (slots : List Slot) → rechain k (rechain (other k) s slots (chainOf (other k) s)) slots ys ≡ rechain k s slots ys
-    same ByTicks slots = refl
-    same ByDate slots = refl
+    let i = y .slot in
+    let x = idled (slotAt (s .slots) i) in
+    let slots = firedAll (y ∷ []) (s .slots) in
+    same-state (stopped s i x) (fired k s y ys) (sym (rechain-room s slots ys k))
+    (ap (putAt (s .slots) i) (fired-idle (slotAt (s .slots) i)) ∙ sym (rechain-slots s slots ys k)) (sym (rechain-clock s slots ys k))
+    (each-chain (λ m. chainOf m (stopped s i x) ≡ chainOf m (fired k s y ys)) k
+    (stopped-chain s i x k ∙ ap (without i) whole ∙ rw (eq-eqb i i refl) (without-none i ys p) ∙ sym (rechain-own s slots ys k))
+    (λ m away. stopped-chain s i x m ∙ without-none i (chainOf m s) (q m away) ∙ sym (rechain-apart s slots ys k m away)))
 
 fire-rechain : (k : Chain) (limit : ℕ) (s : State) (slots : List Slot) (c : List Link)
-    → fire k limit (rechain k s slots c) ≡ rechain k s (idleAll (keep (λ w. leb (w .wait) limit) c) slots) (keep (λ w. ltb limit (w .wait)) c)
+    → fire k limit (rechain k s slots c) ≡ rechain k s (firedAll (keep (λ w. leb (w .wait) limit) c) slots) (keep (λ w. ltb limit (w .wait)) c)
 fire-rechain ByTicks limit s slots c = refl
 fire-rechain ByDate limit s slots c = refl
 
@@ -69,12 +84,12 @@ module _ (k : Chain) (limit : ℕ) (s : State) (y : Link) (ys : List Link) (whol
   due-first : due k limit s ≡ y ∷ due k limit (fired k s y ys)
   due-first =
       ap (keep (λ w. leb (w .wait) limit)) whole
-      ∙ rw (le-leb (y .wait) limit low, rechain-own s (idleAll (y ∷ []) (s .slots)) ys k)
+      ∙ rw (le-leb (y .wait) limit low, rechain-own s (firedAll (y ∷ []) (s .slots)) ys k)
 
   fire-first : fire k limit s ≡ fire k limit (fired k s y ys)
   fire-first =
-      ap (λ (c : List Link). rechain k s (idleAll (keep (λ w. leb (w .wait) limit) c) (s .slots)) (keep (λ w. ltb limit (w .wait)) c)) whole
-      ∙ rw (le-leb (y .wait) limit low, le-ltb limit (y .wait) low) (sym (fire-rechain k limit s (idleAll (y ∷ []) (s .slots)) ys))
+      ap (λ (c : List Link). rechain k s (firedAll (keep (λ w. leb (w .wait) limit) c) (s .slots)) (keep (λ w. ltb limit (w .wait)) c)) whole
+      ∙ rw (le-leb (y .wait) limit low, le-ltb limit (y .wait) low) (sym (fire-rechain k limit s (firedAll (y ∷ []) (s .slots)) ys))
 
 -- ---- none is due
 
@@ -85,7 +100,7 @@ none-due k t l limit n h late =
     let rest : keep (λ w. ltb limit (w .wait)) c ≡ c = keep-all (λ w. ltb limit (w .wait)) c (all-map (λ w p. lt-ltb limit (w .wait) p) c late) in
     record {
       count = omega (arith, ap length none);
-      table = sym (ap₂ (λ (d e : List Link). over (rechain k (read t) (idleAll d (read t .slots)) e) t) none rest
+      table = sym (ap₂ (λ (d e : List Link). over (rechain k (read t) (firedAll d (read t .slots)) e) t) none rest
           ∙ ap (λ (s : State). over s t) (same k (read t)) ∙ h .is);
       entries = ap (λ (d : List Link). sets l (3 * n) (entryWords (map (listed (read t .slots)) d))) (sym none);
     }
@@ -111,16 +126,21 @@ module _ {k : Chain} {t l : List ℕ} {limit n i : ℕ} (r : Room k t l limit n)
     omega (arith, r .few, ap length due-is),
   )
 
-  once : timesIn (a .entry ∷ a .back) (a .entry .slot) + timesIn (chainOf (other k) (read t)) (a .entry .slot) ≤ 1
-  once =
-      subst (λ (c : List Link). timesIn c (a .entry .slot) + timesIn (chainOf (other k) (read t)) (a .entry .slot) ≤ 1) (a .whole)
-      (once-either (read t) (r .holds .chained) k (a .entry .slot))
+  once-here : timesIn (a .entry ∷ a .back) (a .entry .slot) ≤ 1
+  once-here = subst (λ (c : List Link). timesIn c (a .entry .slot) ≤ 1) (a .whole) (once (read t) (r .holds .chained) k (a .entry .slot))
+
+  not-there : (m : Chain) → sameChain m k ≡ false → timesIn (chainOf m (read t)) (a .entry .slot) ≡ 0
+  not-there m away =
+      let one : timesIn (chainOf m (read t)) (a .entry .slot) + timesIn (a .entry ∷ a .back) (a .entry .slot) ≤ 1 =
+      subst (λ (c : List Link). timesIn (chainOf m (read t)) (a .entry .slot) + timesIn c (a .entry .slot) ≤ 1) (a .whole)
+      (once-apart (read t) (r .holds .chained) m k away (a .entry .slot)) in
+      omega (arith, one, times-own (a .entry) (a .back))
 
   stopped-is : stoppedAt t i ≡ after a
   stopped-is =
       ap (stoppedAt t) (a .slot)
       ∙ stopped-first k (read t) (a .entry) (a .back) (a .whole)
-      (omega (arith, once, times-own (a .entry) (a .back))) (omega (arith, once, times-own (a .entry) (a .back)))
+      (omega (arith, once-here, times-own (a .entry) (a .back))) not-there
 
   -- the entry that is written is the link's
   entry-is : (es : List ℕ) → _≡_ {A = List ℕ} ((idBase + i) ∷ field t 4 i ∷ field t 5 i ∷ es)
@@ -142,7 +162,7 @@ module _ {k : Chain} {t l : List ℕ} {limit n i : ℕ} (r : Room k t l limit n)
 
     chain-shorter : length (chainOf k (read t′)) < length (chainOf k (read t))
     chain-shorter =
-        let own = rechain-own (read t) (idleAll (a .entry ∷ []) (read t .slots)) (a .back) k in
+        let own = rechain-own (read t) (firedAll (a .entry ∷ []) (read t .slots)) (a .back) k in
         omega (arith, ap length (ap (chainOf k) read-after ∙ own), ap length (a .whole))
 
     room-next : Room k t′ l′ limit (n + 1)
@@ -157,8 +177,8 @@ module _ {k : Chain} {t l : List ℕ} {limit n i : ℕ} (r : Room k t l limit n)
     fires-before : (m : ℕ) (u v : List ℕ) → Fires k t′ l′ limit (n + 1) m u v → Fires k t l limit n m u v
     fires-before m u v f =
         let later = due k limit (read t′) in
-        let slots : read t′ .slots ≡ idleAll (a .entry ∷ []) (read t .slots) =
-        ap (λ (z : State). z .slots) read-after ∙ rechain-slots (read t) (idleAll (a .entry ∷ []) (read t .slots)) (a .back) k in
+        let slots : read t′ .slots ≡ firedAll (a .entry ∷ []) (read t .slots) =
+        ap (λ (z : State). z .slots) read-after ∙ rechain-slots (read t) (firedAll (a .entry ∷ []) (read t .slots)) (a .back) k in
         let same : fire k limit (stoppedAt t i) ≡ fire k limit (read t) =
         ap (fire k limit) stopped-is ∙ sym (fire-first k limit (read t) (a .entry) (a .back) (a .whole) low) in
         let es : map (listed (read t′ .slots)) later ≡ map (listed (read t .slots)) later =

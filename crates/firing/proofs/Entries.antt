@@ -7,9 +7,9 @@ use mathlib.Core.List.{List, [], _∷_, _++_, map}
 use lib.ListN.{length, set, drop}
 use lib.Seq.{sets, sets-eq}
 use Rattle.model.specs.State.{Slot, Link, Fired, listed, idBase}
-use Rattle.model.specs.Directives.{idleAll}
+use Rattle.model.specs.Directives.{firedAll}
 use Rattle.model.specs.Outcome.{entryWords, written}
-use Rattle.model.proofs.Slots.{memo-idleAll}
+use Rattle.model.proofs.Slots.{memo-firedAll}
 
 -- ---- stores
 
@@ -49,8 +49,8 @@ sets-written fs l p =
     none : 0 + length (entryWords fs) ≡ length (entryWords fs)
     none = omega arith
 
-pub listed-idle : (ws : List Link) (slots : List Slot) (c : List Link) → map (listed (idleAll ws slots)) c ≡ map (listed slots) c
+pub listed-idle : (ws : List Link) (slots : List Slot) (c : List Link) → map (listed (firedAll ws slots)) c ≡ map (listed slots) c
 listed-idle ws slots [] = refl
 listed-idle ws slots (x ∷ xs) =
     ap₂ {C = List Fired} (λ m r. record { id = idBase + x .slot; routine = m .routine; userData = m .userData } ∷ r)
-    (memo-idleAll ws slots (x .slot)) (listed-idle ws slots xs)
+    (memo-firedAll ws slots (x .slot)) (listed-idle ws slots xs)

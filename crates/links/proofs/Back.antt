@@ -38,7 +38,7 @@ module _ (t : List ℕ) (h : Holds t (read t)) where
       ap (λ (i : ℕ). position i (s .ticking)) (sym (last-slot 0 xs e)) ∙ own .at ∙ length-append xs (e ∷ []) in
       let own-wait : waitAt (e .slot) (s .ticking) ≡ e .wait =
       ap (λ (i : ℕ). waitAt i (s .ticking)) (sym (last-slot 0 xs e)) ∙ own .wait ∙ last-wait 0 xs e in
-      let bounded = subst (All (λ w. w .wait ≤ slotAt (s .slots) (w .slot) .interval)) q (h .chained .bounded) in
+      let bounded = subst (All (λ w. w .wait ≤ slotAt (s .slots) (w .slot) .interval)) q (h .chained .within ByTicks) in
       record {
         inside = omega (arith, within .1, h .long);
         there = rw (stands .previous) (left .there);

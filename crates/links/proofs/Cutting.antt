@@ -8,23 +8,23 @@ use mathlib.Core.Bool.{Bool, true, false, cond}
 use mathlib.Core.List.{List, [], _∷_, _++_, append-assoc}
 use lib.ListN.{length, set}
 use lib.Seq.{set-getD}
-use borrow.Author.Tests.{eq-eqb, ne-eqb}
 use Rattle.model.specs.declared.Chain.{Chain}
 use Rattle.model.specs.declared.Chain.the-variants.{ByTicks, ByDate}
 use Rattle.model.specs.Lists.{All, Sorted}
-use Rattle.model.specs.Kinds.{waitingKind, idleKind, waitsIn, idleOf}
+use Rattle.model.specs.Kinds.{kindAt, sameChain, waitsIn}
 use Rattle.model.specs.State.{Slot, Link, State, chainOf, rechain, free, slotAt, putAt, without}
 use Rattle.model.specs.Directives.{stopped, idled}
 use Rattle.model.specs.Words.{first, difference, over, word, field, slotFrom, read}
 use Rattle.model.proofs.WellFormed.{timesIn, Holds}
-use Rattle.model.proofs.Chains.{without-none, other, idle-not-waiting}
-use Rattle.model.proofs.Idled.{idle-stays}
+use Rattle.model.proofs.Chains.{without-none}
+use Rattle.model.proofs.KindLaws.{none-in, stopped-not-in, stays}
+use Rattle.table.proofs.KindTests.{not-in}
 use Rattle.model.proofs.Spelling.{holds-parts, Linked, holds-linked}
 use Rattle.model.proofs.ReadBack.{slots-length, slot-read}
 use Rattle.model.proofs.Steps.{chained-stopped}
 use Rattle.links.specs.Surgery.{fieldWord, relinked, taken, cutOut, Cuttable}
 use Rattle.links.specs.Places.{lastSlot, lastWait, InTable}
-use Rattle.links.proofs.Middle.{times-at, Split, split, all-mid, sorted-next, linked-back, mid-stands, mid-once, mid-within, mid-sorted, last-low}
+use Rattle.links.proofs.Middle.{times-at, Split, split, all-mid, sorted-next, linked-back, mid-stands, mid-once, mid-apart, mid-within, mid-sorted, last-low}
 use Rattle.links.proofs.Surgery.{taken-none, taken-ticks, taken-date, edit-set, relinked-edit}
 use Rattle.links.proofs.Relinked.{times-but, Around, own-within, own-not-last, own-not-first, last-high, first-high, behind-within, led-front, led-back, edited}
 
@@ -37,20 +37,21 @@ taken-is ByTicks t n w a b c h e f p q = omega (arith, taken-ticks t w n h)
 taken-is ByDate t n w a b c h e f p q = taken-date t w n h ∙ e
 
 -- a state whose slot i is only in chain k
-stopped-as : (k : Chain) (s : State) (i : ℕ) (x : Slot) (c : List Link) → without i (chainOf k s) ≡ c → timesIn (chainOf (other k) s) i ≡ 0
+stopped-as : (k : Chain) (s : State) (i : ℕ) (x : Slot) (c : List Link) → without i (chainOf k s) ≡ c
+    → ((m : Chain) → sameChain m k ≡ false → timesIn (chainOf m s) i ≡ 0)
     → rechain k s (putAt (s .slots) i x) c ≡ stopped s i x
 stopped-as ByTicks s i x c e n = λ d. record {
   room = s .room;
   slots = putAt (s .slots) i x;
   clock = s .clock;
   ticking = sym e d;
-  dated = sym (without-none i (s .dated) n) d;
+  dated = sym (without-none i (s .dated) (n ByDate refl)) d;
 }
 stopped-as ByDate s i x c e n = λ d. record {
   room = s .room;
   slots = putAt (s .slots) i x;
   clock = s .clock;
-  ticking = sym (without-none i (s .ticking) n) d;
+  ticking = sym (without-none i (s .ticking) (n ByTicks refl)) d;
   dated = sym e d;
 }
 
@@ -58,6 +59,7 @@ module _ (k : Chain) (t : List ℕ) (s : State) (h : Holds t s) (xs : List Link)
   around : Around k s xs e ys
   around = record {
     once = mid-once k t s h xs e ys whole;
+    apart = mid-apart k t s h xs e ys whole;
     within = mid-within k t s h xs e ys whole;
     same = λ j ji. ap (λ (c : List Link). timesIn c j) whole ∙ times-but j xs e ys ji;
   }
@@ -87,7 +89,7 @@ module _ (k : Chain) (t : List ℕ) (s : State) (h : Holds t s) (xs : List Link)
         subst (λ (m : Chain). chainOf m s ≡ xs ++ e ∷ ys) (sym c) whole ∙ ap (λ (l : List Link). xs ++ e ∷ l) q ∙ sym (append-assoc xs (e ∷ []) (y ∷ zs)) in
         let below : y .wait ≤ slotAt (s .slots) (y .slot) .interval =
         all-mid (λ w. w .wait ≤ slotAt (s .slots) (w .slot) .interval) (xs ++ e ∷ []) y zs
-        (subst (All (λ w. w .wait ≤ slotAt (s .slots) (w .slot) .interval)) whole′ (h .chained .bounded)) in
+        (subst (All (λ w. w .wait ≤ slotAt (s .slots) (w .slot) .interval)) whole′ (h .chained .within ByTicks)) in
         let is = holds-parts t s h .slots (y .slot) (behind-within around y zs q .0) (behind-within around y zs q .1) in
         omega (
           arith,
@@ -108,7 +110,7 @@ module _ (k : Chain) (t : List ℕ) (s : State) (h : Holds t s) (xs : List Link)
           fits = rw (stands .next) (taken-fits k refl ys refl);
         }
 
-  stop-mid : (v : ℕ) → v ≡ idleOf (slotAt (s .slots) (e .slot) .kind) → without (e .slot) (chainOf k s) ≡ xs ++ ys
+  stop-mid : (v : ℕ) → v ≡ kindAt (slotAt (s .slots) (e .slot) .kind) .stopped → without (e .slot) (chainOf k s) ≡ xs ++ ys
       → set (cutOut k t (e .slot)) (fieldWord (e .slot) 0) v ≡ over (stopped s (e .slot) (idled (slotAt (s .slots) (e .slot)))) t
   stop-mid v idle rest =
       let i = e .slot in
@@ -131,18 +133,14 @@ module _ (k : Chain) (t : List ℕ) (s : State) (h : Holds t s) (xs : List Link)
       (λ _. record { wait = edit .own 3 (omega arith); next = edit .own 6 (omega arith); previous = edit .own 7 (omega arith) })
       (stopped s i (idled x))
       (ap (λ (z : Slot). rechain k s (putAt (s .slots) i z) (xs ++ ys)) new
-      ∙ stopped-as k s i (idled x) (xs ++ ys) rest (omega (arith, around .once i, times-at xs e ys)))
-      (chained-stopped s (h .chained) i (idled x) (own .0) (own .1) (λ m. idle-not-waiting m (x .kind)))
+      ∙ stopped-as k s i (idled x) (xs ++ ys) rest (λ m away. omega (arith, around .apart m away i, times-at xs e ys)))
+      (chained-stopped s (h .chained) i (idled x) (own .0) (own .1) (λ m. stopped-not-in m (x .kind)))
 
 -- ---- a table
 
-idle-waiting : (k : Chain) → idleOf (waitingKind k) ≡ idleKind k
-idle-waiting ByTicks = refl
-idle-waiting ByDate = refl
-
-pub waits-none : (kind : ℕ) → kind ≢ waitingKind ByTicks → kind ≢ waitingKind ByDate → (k : Chain) → waitsIn k kind ≡ false
-waits-none kind a b ByTicks = ne-eqb kind (waitingKind ByTicks) a
-waits-none kind a b ByDate = ne-eqb kind (waitingKind ByDate) b
+pub waits-none : (kind : ℕ) → kind ≢ 4 → kind ≢ 5 → (k : Chain) → waitsIn k kind ≡ false
+waits-none kind a b ByTicks = not-in ByTicks kind a
+waits-none kind a b ByDate = not-in ByDate kind b
 
 module _ (t : List ℕ) (i : ℕ) (h : InTable t i) where
   pub in-slots : i ≤ length (read t .slots)
@@ -162,36 +160,36 @@ module _ (t : List ℕ) (i : ℕ) (h : InTable t i) where
   in-none idle k = times-kind k false (idle k)
 
   -- a timer that waits in chain k
-  module _ (k : Chain) (waits : field t 0 i ≡ waitingKind k) where
+  module _ (k : Chain) (waits : waitsIn k (field t 0 i) ≡ true) where
     found : Split i (chainOf k (read t))
-    found = split i (chainOf k (read t)) (times-kind k true (eq-eqb (field t 0 i) (waitingKind k) waits))
+    found = split i (chainOf k (read t)) (times-kind k true waits)
 
     pub cuttable : ((m : ℕ) → word t m < 4294967296) → Cuttable k t i
     cuttable fits =
         let f = found in subst (Cuttable k t) (f .slot) (cuttable-mid k t (read t) (h .holds) (f .front) (f .entry) (f .back) (f .whole) fits)
 
     -- the words after the steps of a stop
-    pub stop-waiting : {t₁ t₂ : List ℕ} → t₁ ≡ cutOut k t i → t₂ ≡ set t₁ (fieldWord i 0) (idleKind k)
+    pub stop-waiting : {t₁ t₂ : List ℕ} (v : ℕ) → v ≡ kindAt (field t 0 i) .stopped → t₁ ≡ cutOut k t i → t₂ ≡ set t₁ (fieldWord i 0) v
         → t₂ ≡ over (stopped (read t) i (idled (slotAt (read t .slots) i))) t
-    stop-waiting cut put =
+    stop-waiting v idle cut put =
         let f = found in
-        put ∙ ap (λ (l : List ℕ). set l (fieldWord i 0) (idleKind k)) cut
-        ∙ subst (λ (j : ℕ). idleKind k ≡ idleOf (slotAt (read t .slots) j .kind) → without j (chainOf k (read t)) ≡ f .front ++ f .back
-        → set (cutOut k t j) (fieldWord j 0) (idleKind k) ≡ over (stopped (read t) j (idled (slotAt (read t .slots) j))) t) (f .slot)
-        (stop-mid k t (read t) (h .holds) (f .front) (f .entry) (f .back) (f .whole) (idleKind k))
-        (sym (ap (λ (x : Slot). idleOf (x .kind)) slot-is ∙ ap idleOf waits ∙ idle-waiting k)) (f .rest)
+        put ∙ ap (λ (l : List ℕ). set l (fieldWord i 0) v) cut
+        ∙ subst (λ (j : ℕ). v ≡ kindAt (slotAt (read t .slots) j .kind) .stopped → without j (chainOf k (read t)) ≡ f .front ++ f .back
+        → set (cutOut k t j) (fieldWord j 0) v ≡ over (stopped (read t) j (idled (slotAt (read t .slots) j))) t) (f .slot)
+        (stop-mid k t (read t) (h .holds) (f .front) (f .entry) (f .back) (f .whole) v)
+        (idle ∙ ap (λ (x : Slot). kindAt (x .kind) .stopped) (sym slot-is)) (f .rest)
 
   -- a timer that does not wait
   pub stop-idle : ((k : Chain) → waitsIn k (field t 0 i) ≡ false) → t ≡ over (stopped (read t) i (idled (slotAt (read t .slots) i))) t
   stop-idle idle =
       let s = read t in
       let x = slotAt (s .slots) i in
-      let kind : idleOf (x .kind) ≡ x .kind =
-      rw slot-is (idle-stays (field t 0 i) (idle ByTicks) (idle ByDate)) in
+      let kind : kindAt (x .kind) .stopped ≡ x .kind =
+      rw slot-is (stays (field t 0 i) (none-in (kindAt (field t 0 i) .chain) idle)) in
       let same : idled x ≡ x = ap (λ (m : ℕ). record { kind = m; name = x .name; interval = x .interval; routine = x .routine; userData = x .userData }) kind in
       let is : s ≡ stopped s i (idled x) =
       ap (λ (sl : List Slot). rechain ByTicks s sl (s .ticking)) (sym (put-own (s .slots) i) ∙ ap (putAt (s .slots) i) (sym same))
-      ∙ stopped-as ByTicks s i (idled x) (s .ticking) (without-none i (s .ticking) (in-none idle ByTicks)) (in-none idle ByDate) in
+      ∙ stopped-as ByTicks s i (idled x) (s .ticking) (without-none i (s .ticking) (in-none idle ByTicks)) (λ m _. in-none idle m) in
       sym (h .holds .is) ∙ ap (λ (z : State). over z t) is
     where
       put-own : (sl : List Slot) (j : ℕ) → putAt sl j (slotAt sl j) ≡ sl

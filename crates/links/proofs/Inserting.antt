@@ -11,15 +11,16 @@ use borrow.Author.Tests.{eqb-true, eqb-false, leb-true, leb-false}
 use Rattle.model.specs.declared.Chain.{Chain}
 use Rattle.model.specs.declared.Chain.the-variants.{ByTicks, ByDate}
 use Rattle.model.specs.Lists.{place}
-use Rattle.model.specs.Kinds.{waitingKind}
+use Rattle.model.specs.declared.Mode.{Mode}
+use Rattle.model.specs.Kinds.{chainFor, waitingKind}
 use Rattle.model.specs.State.{Slot, Link, State, chainOf, rechain, slotAt, putAt}
-use Rattle.model.specs.Directives.{stopped, queued, waitingAs, started}
+use Rattle.model.specs.Directives.{stopped, joined, intervalIn, waitingAs, started}
 use Rattle.model.specs.Words.{first, difference, over, field, read}
 use Rattle.model.proofs.ListLaws.{cases, count-append}
 use Rattle.model.proofs.WellFormed.{timesIn, Holds}
-use Rattle.model.proofs.Chains.{without-none, other, once-either, met-in-range}
+use Rattle.model.proofs.Chains.{without-none, once, once-apart, met-in-range}
 use Rattle.model.proofs.Spelling.{holds-parts, Linked}
-use Rattle.model.proofs.Steps.{Within, chained-started}
+use Rattle.model.proofs.Steps.{chained-started}
 use Rattle.links.specs.Surgery.{relinked, given, putIn, Open, filled}
 use Rattle.links.specs.Places.{upTo, beyond, lastSlot, lastWait, At, IdleInTable}
 use Rattle.links.proofs.Middle.{times-at}
@@ -56,7 +57,7 @@ given-is ByDate t n w a b c h e f p q = given-date t w n h ∙ e
 
 -- a state whose slot i is in no chain
 started-as : (k : Chain) (s : State) (i n : ℕ) (x : Slot) (c : List Link) → ((m : Chain) → timesIn (chainOf m s) i ≡ 0)
-    → place (λ w. w .wait) (record { slot = i; wait = n }) (chainOf k s) ≡ c → rechain k s (putAt (s .slots) i x) c ≡ queued k (stopped s i x) i n
+    → place (λ w. w .wait) (record { slot = i; wait = n }) (chainOf k s) ≡ c → rechain k s (putAt (s .slots) i x) c ≡ joined k (stopped s i x) i n
 started-as ByTicks s i n x c none e = λ d. record {
   room = s .room;
   slots = putAt (s .slots) i x;
@@ -85,8 +86,13 @@ module _ (k : Chain) (t : List ℕ) (s : State) (h : Holds t s) (xs : List Link)
     once = λ j. cases (eqb (e .slot) j)
         (λ f.
         let is = eqb-true (e .slot) j f in
-        rw (← is) (omega (arith, times-at xs e ys, times-whole (e .slot), none k, none (other k))))
-        (λ f. omega (arith, times-but j xs e ys (λ r. eqb-false (e .slot) j f (sym r)), times-whole j, once-either s (h .chained) k j));
+        rw (← is) (omega (arith, times-at xs e ys, times-whole (e .slot), none k)))
+        (λ f. omega (arith, times-but j xs e ys (λ r. eqb-false (e .slot) j f (sym r)), times-whole j, once s (h .chained) k j));
+    apart = λ m away j. cases (eqb (e .slot) j)
+        (λ f.
+        let is = eqb-true (e .slot) j f in
+        rw (← is) (omega (arith, times-at xs e ys, times-whole (e .slot), none k, none m)))
+        (λ f. omega (arith, times-but j xs e ys (λ r. eqb-false (e .slot) j f (sym r)), times-whole j, once-apart s (h .chained) m k away j));
     within = λ j m. cases (eqb (e .slot) j)
         (λ f. let is = eqb-true (e .slot) j f in (omega arith, omega arith))
         (λ f. met-in-range s (h .chained) k j (omega (arith, times-but j xs e ys (λ r. eqb-false (e .slot) j f (sym r)), times-whole j)));
@@ -125,19 +131,21 @@ module _ (k : Chain) (t : List ℕ) (s : State) (h : Holds t s) (xs : List Link)
             let less = past y zs q in
             omega (arith, ap (λ (m : Chain). difference m (lastWait 0 xs) (y .wait)) c, ap (λ (m : Chain). difference m (lastWait 0 xs) (e .wait)) c)
 
-    start-mid : (interval r u : ℕ) → Within k (e .wait) interval → place (λ z. z .wait) e (chainOf k s) ≡ xs ++ e ∷ ys
-        → filled (putIn k t (lastSlot 0 xs) (e .slot) w) (e .slot) (waitingKind k) interval r u ≡ over (started k s (e .slot) (e .wait) interval r u) t
-    start-mid interval r u ok goes =
+    start-mid : (m : Mode) → k ≡ chainFor m → (r u : ℕ) → place (λ z. z .wait) e (chainOf k s) ≡ xs ++ e ∷ ys
+        → filled (putIn k t (lastSlot 0 xs) (e .slot) w) (e .slot) (waitingKind m) (intervalIn (chainFor m) (e .wait)) r u
+        ≡ over (started m s (e .slot) (e .wait) r u) t
+    start-mid m in-k r u goes =
+        let interval = intervalIn (chainFor m) (e .wait) in
         let i = e .slot in
         let p = lastSlot 0 xs in
         let n = first ys in
         let x = slotAt (s .slots) i in
-        let new : record { kind = waitingKind k; name = field t 1 i; interval = interval; routine = r; userData = u } ≡ waitingAs k x interval r u =
-        ap (λ (z : Slot). waitingAs k z interval r u) (holds-parts t s h .slots i low high) in
-        let edit = filled-edit (waitingKind k) interval r u refl
+        let new : record { kind = waitingKind m; name = field t 1 i; interval = interval; routine = r; userData = u } ≡ waitingAs m x (e .wait) r u =
+        ap (λ (z : Slot). waitingAs m z (e .wait) r u) (holds-parts t s h .slots i low high) in
+        let edit = filled-edit (waitingKind m) interval r u refl
         (relinked-edit k t p i n i (given k t n w) i low (own-not-last around) (own-not-first around)
         (omega (arith, last-high around, h .long)) (omega (arith, first-high around, h .long)) (omega (arith, h .long)) w n p) in
-        ap (λ (m : ℕ). filled (relinked k t p i m i (given k t m w) i w m p) i (waitingKind k) interval r u) (rest .link)
+        ap (λ (j : ℕ). filled (relinked k t p i j i (given k t j w) i w j p) i (waitingKind m) interval r u) (rest .link)
         ∙ edited h around edit (xs ++ e ∷ ys)
         (led-front h around edit ys (e ∷ ys) whole
         (record {
@@ -149,10 +157,11 @@ module _ (k : Chain) (t : List ℕ) (s : State) (h : Holds t s) (xs : List Link)
         }))
         (λ j. times-but j xs e ys)
         (λ z. absurd (omega (arith, z, times-at xs e ys)))
-        (started k s i (e .wait) interval r u)
+        (started m s i (e .wait) r u)
         (ap (λ (z : Slot). rechain k s (putAt (s .slots) i z) (xs ++ e ∷ ys)) new
-        ∙ started-as k s i (e .wait) (waitingAs k x interval r u) (xs ++ e ∷ ys) none goes)
-        (chained-started k s (h .chained) i (e .wait) interval r u low high ok)
+        ∙ started-as k s i (e .wait) (waitingAs m x (e .wait) r u) (xs ++ e ∷ ys) none goes
+        ∙ ap (λ (j : Chain). joined j (stopped s i (waitingAs m x (e .wait) r u)) i (e .wait)) in-k)
+        (chained-started m s (h .chained) i (e .wait) r u low high)
 
 -- ---- a table
 
@@ -165,12 +174,13 @@ module _ (k : Chain) (t : List ℕ) (i : ℕ) (h : IdleInTable t i) (n p w : ℕ
       w (at .word))
 
   -- the words after the steps of a start
-  pub start-words : (interval r u : ℕ) → Within k n interval → {kind : ℕ} {t₁ t₂ : List ℕ} → t₁ ≡ putIn k t p i w → kind ≡ waitingKind k
-      → t₂ ≡ filled t₁ i kind interval r u → t₂ ≡ over (started k (read t) i n interval r u) t
-  start-words interval r u ok put is fill =
+  pub start-words : (m : Mode) → k ≡ chainFor m → (r u : ℕ) {kind interval : ℕ} (t₁ : List ℕ) {t₂ : List ℕ} → t₁ ≡ putIn k t p i w → kind ≡ waitingKind m
+      → interval ≡ intervalIn k n → t₂ ≡ filled t₁ i kind interval r u → t₂ ≡ over (started m (read t) i n r u) t
+  start-words m in-k r u t₁ put is for fill =
       let c = chainOf k (read t) in
       let e : Link = record { slot = i; wait = n } in
-      fill ∙ ap₂ (λ (l : List ℕ) (m : ℕ). filled l i m interval r u) put is
+      fill ∙ ap₂ (λ (a b : ℕ). filled t₁ i a b r u) is (for ∙ ap (λ (j : Chain). intervalIn j n) in-k)
+      ∙ ap (λ (l : List ℕ). filled l i (waitingKind m) (intervalIn (chainFor m) n) r u) put
       ∙ rw (at .slot) (start-mid k t (read t) (h .in-table .holds) (upTo n c) e (beyond n c) (parted n c)
       (h .in-table .low) (in-slots t i (h .in-table)) (in-none t i (h .in-table) (h .idle)) (last-up 0 n c zero-le) (first-beyond n c)
-      w (at .word) interval r u ok (placed e c))
+      w (at .word) m in-k r u (placed e c))

@@ -2,18 +2,19 @@
 use mathlib.Core.Path.{_≡_, refl, sym, ap, _∙_, subst}
 use Prim.Native.Nat.{ℕ, suc, _+_, _≤_, _<_, zero-le}
 use native.Mathlib.Omega.{arith}
-use mathlib.Core.Bool.{Bool, cond}
+use mathlib.Core.Bool.{Bool, false, cond}
 use mathlib.Core.List.{List, [], _∷_, _++_}
 use lib.ListN.{length}
 use lib.Dec.{eqb}
 use borrow.Author.Tests.{eqb-true, eq-eqb}
 use Rattle.model.specs.declared.Chain.{Chain}
 use Rattle.model.specs.Lists.{All, Sorted}
+use Rattle.model.specs.Kinds.{sameChain}
 use Rattle.model.specs.State.{Link, State, chainOf, without}
 use Rattle.model.specs.Words.{first}
 use Rattle.model.proofs.ListLaws.{cases, count-append}
 use Rattle.model.proofs.WellFormed.{timesIn, Holds}
-use Rattle.model.proofs.Chains.{without-none, other, once-either, met-in-range}
+use Rattle.model.proofs.Chains.{without-none, once, once-apart, met-in-range}
 use Rattle.model.proofs.Spelling.{Stands, Linked, holds-linked}
 use Rattle.links.specs.Places.{lastSlot, lastWait}
 
@@ -101,8 +102,12 @@ module _ (k : Chain) (t : List ℕ) (s : State) (h : Holds t s) (xs : List Link)
   pub mid-stands : Stands k t (lastSlot 0 xs) (lastWait 0 xs) e (first ys)
   mid-stands = linked-mid k t 0 0 xs e ys (subst (Linked k t 0 0) whole (holds-linked t s h k))
 
-  pub mid-once : (j : ℕ) → timesIn (xs ++ e ∷ ys) j + timesIn (chainOf (other k) s) j ≤ 1
-  mid-once j = subst (λ (c : List Link). timesIn c j + timesIn (chainOf (other k) s) j ≤ 1) whole (once-either s (h .chained) k j)
+  pub mid-once : (j : ℕ) → timesIn (xs ++ e ∷ ys) j ≤ 1
+  mid-once j = subst (λ (c : List Link). timesIn c j ≤ 1) whole (once s (h .chained) k j)
+
+  pub mid-apart : (m : Chain) → sameChain m k ≡ false → (j : ℕ) → timesIn (xs ++ e ∷ ys) j + timesIn (chainOf m s) j ≤ 1
+  mid-apart m away j =
+      subst (λ (c : List Link). timesIn c j + timesIn (chainOf m s) j ≤ 1) whole (omega (arith, once-apart s (h .chained) m k away j))
 
   pub mid-within : (j : ℕ) → 0 < timesIn (xs ++ e ∷ ys) j → (0 < j) × (j ≤ length (s .slots))
   mid-within j p = met-in-range s (h .chained) k j (subst (λ (c : List Link). 0 < timesIn c j) (sym whole) p)

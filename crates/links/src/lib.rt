@@ -4,16 +4,16 @@
 ghost use mathlib.Core.Path.{_≡_};
 ghost use Prim.Native.Nat.{_+_, _*_, _<_, _≤_};
 ghost use lib.ListN.{length, set};
-ghost use Rattle.model.specs.Kinds.{waitingKind};
+ghost use Rattle.model.specs.Kinds.{chainFor, waitingKind};
 ghost use Rattle.model.specs.State.{slotAt, waitAt};
-ghost use Rattle.model.specs.Directives.{stored, stopped, idled, started};
+ghost use Rattle.model.specs.Directives.{stored, stopped, idled, intervalIn, started};
 ghost use Rattle.model.specs.Words.{word, field, headWord, difference, read, over};
 ghost use Rattle.model.proofs.WellFormed.{Holds, timesIn};
 ghost use Rattle.model.proofs.Spelling.{linkWord};
-ghost use Rattle.model.proofs.Steps.{Within};
 ghost use Rattle.links.specs.Surgery.{joined, threaded, taken, given, cutOut, putIn, Cuttable, Open, filled};
 ghost use Rattle.links.specs.Places.{At, InTable, IdleInTable};
 use model::Chain;
+use model::Mode;
 use table::DATA;
 use table::FIRST_DATED;
 use table::FIRST_TICKING;
@@ -41,13 +41,33 @@ fn head_word(chain: Chain) -> usize
     }
 }
 
-// The kind of a timer that waits in a chain.
-fn waiting_kind(chain: Chain) -> u32
-    ensures { λ r. ⌜ r ≡ waitingKind chain ⌝ }
+// The chain in which a start waits.
+fn chain_for(mode: Mode) -> Chain
+    ensures { λ r. ⌜ r ≡ chainFor mode ⌝ }
+{
+    match mode {
+        Mode::After => Chain::ByTicks,
+        Mode::When => Chain::ByDate,
+    }
+}
+
+// The kind of a timer that was started.
+fn waiting_kind(mode: Mode) -> u32
+    ensures { λ r. ⌜ r ≡ waitingKind mode ⌝ }
+{
+    match mode {
+        Mode::After => WAITING_TICKS,
+        Mode::When => WAITING_DATE,
+    }
+}
+
+// The interval of a start: its ticks, none for a date.
+fn interval_in(chain: Chain, amount: u32) -> u32
+    ensures { λ r. ⌜ r ≡ intervalIn chain amount ⌝ }
 {
     match chain {
-        Chain::ByTicks => WAITING_TICKS,
-        Chain::ByDate => WAITING_DATE,
+        Chain::ByTicks => amount,
+        Chain::ByDate => 0,
     }
 }
 
@@ -228,40 +248,32 @@ fn fill(t: &mut [u32], i: u32, kind: u32, interval: u32, routine: u32, user_data
 }
 
 // A timer that does not wait starts to wait, behind every timer due at the same tick or date.
-fn start_idle(
-    t: &mut [u32],
-    chain: Chain,
-    i: u32,
-    wait: u32,
-    interval: u32,
-    routine: u32,
-    user_data: u32,
-)
-    requires { ⌜ IdleInTable (now t) i × Within chain wait interval ⌝ }
-    ensures { λ _. ⌜ now (t .exit) ≡ over (started chain (read (now (t .entry))) i wait interval routine user_data) (now (t .entry)) ⌝ }
+fn start_idle(t: &mut [u32], mode: Mode, i: u32, amount: u32, routine: u32, user_data: u32)
+    requires { ⌜ IdleInTable (now t) i ⌝ }
+    ensures { λ _. ⌜ now (t .exit) ≡ over (started mode (read (now (t .entry))) i amount routine user_data) (now (t .entry)) ⌝ }
 {
-    let place = find_place(t, chain, wait);
+    let chain = chain_for(mode);
+    let place = find_place(t, chain, amount);
     let p = place.before;
     let w = place.wait;
     insert(t, chain, p, i, w);
-    fill(t, i, waiting_kind(chain), interval, routine, user_data);
+    fill(
+        t,
+        i,
+        waiting_kind(mode),
+        interval_in(chain, amount),
+        routine,
+        user_data,
+    );
 }
 
 // A timer starts to wait, whatever it did before.
-pub fn start(
-    t: &mut [u32],
-    chain: Chain,
-    i: u32,
-    wait: u32,
-    interval: u32,
-    routine: u32,
-    user_data: u32,
-)
-    requires { ⌜ InTable (now t) i × Within chain wait interval ⌝ }
-    ensures { λ _. ⌜ now (t .exit) ≡ over (started chain (read (now (t .entry))) i wait interval routine user_data) (now (t .entry)) ⌝ }
+pub fn start(t: &mut [u32], mode: Mode, i: u32, amount: u32, routine: u32, user_data: u32)
+    requires { ⌜ InTable (now t) i ⌝ }
+    ensures { λ _. ⌜ now (t .exit) ≡ over (started mode (read (now (t .entry))) i amount routine user_data) (now (t .entry)) ⌝ }
 {
     stop(t, i);
-    start_idle(t, chain, i, wait, interval, routine, user_data);
+    start_idle(t, mode, i, amount, routine, user_data);
 }
 
 // A slot gets another kind and name, and what was stored at a start is cleared.

@@ -4,7 +4,7 @@ use mathlib.Core.Path.{_≡_, refl, sym, ap, ap₂, _∙_}
 use Prim.Native.Nat.{ℕ}
 use native.Mathlib.Omega.{arith}
 use mathlib.Core.Bool.{Bool, true, false, not}
-use mathlib.Core.List.{List, [], _∷_, _++_, map, reverse, reverseAux, append-assoc, append-nil}
+use mathlib.Core.List.{List, [], _∷_, _++_, map, reverse}
 use lib.ListN.{length, length-map}
 use lib.Dec.{eqb}
 use borrow.Author.Tests.{eqb-true, eqb-false, eq-eqb}
@@ -17,10 +17,10 @@ use Rattle.model.specs.Directives.{refusals, laidOut, effect}
 use Rattle.model.specs.Words.{first, over, word, field, along, links, read}
 use Rattle.model.specs.Sound.{sound}
 use Rattle.model.specs.Outcome.{Outcome, statusOn, refused, written, outcome}
-use Rattle.model.specs.History.{Event, laidOutFor, eventOf, eventsFrom, perSecond, clockAfter, starts, waits, fires, inChain, dueAt, entry}
+use Rattle.model.specs.History.{Event, laidOutFor, eventOf, eventsOn, starts, fires, inChain, left, entry}
 use Rattle.model.specs.Demand.{after, acceptedIn, shown, Standing, Answers, eventsAfter, Demand3}
 use Rattle.model.proofs.ListLaws.{cases, clash}
-use Rattle.model.proofs.Order.{order-in-order}
+use Rattle.model.proofs.Order.{order, order-in-order}
 use Rattle.model.proofs.WellFormed.{Holds}
 use Rattle.model.proofs.Chains.{once-both}
 use Rattle.model.proofs.ReadBack.{slots-length, read-back, by-previous, over-holds, written-holds}
@@ -29,16 +29,15 @@ use Rattle.model.proofs.HoldsSound.{well-formed-sound}
 use Rattle.model.proofs.Steps.{chained-laid, length-laid}
 use Rattle.model.proofs.Refused.{accepted-facts, isLayOut}
 use Rattle.model.proofs.Kept.{kept, laid-well-formed, effect-room, slots-kept, bound}
-use Rattle.model.proofs.ChainLaws.{chainFrom}
-use Rattle.model.proofs.HistoryLaws.{history, dueIn}
+use Rattle.model.proofs.HistoryLaws.{waitingIn, chainFrom, firingIn, shown-order}
 use Rattle.model.proofs.Simulation.{Agrees, agrees-laid}
 use Rattle.model.proofs.Agreement.{agrees-step, lists-due, none-due, counts}
 use Rattle.model.proofs.OutcomeLaws.{status-is, outcome-accepted, outcome-refused, outcome-status}
 
--- the table t is sound and its state agrees with the events es, of which h is the reverse
-record SoundAndAgreeing (t : List ℕ) (es h : List Event) : Type 0 where
+-- the table t is sound and its state agrees with the events h
+record SoundAndAgreeing (t : List ℕ) (h : List Event) : Type 0 where
   is-sound : sound t ≡ true
-  agrees : Agrees (read t) es h
+  agrees : Agrees (read t) h
 
 -- ---- a table written by an accepted call
 
@@ -79,20 +78,20 @@ effect-holds t ok c e = go (isLayOut c) refl
 
 -- ---- between two calls
 
-module _ (t : List ℕ) (es h : List Event) (g : SoundAndAgreeing t es h) where
-  standing-now : Standing t es
+module _ (t : List ℕ) (h : List Event) (g : SoundAndAgreeing t h) where
+  standing-now : Standing t h
   standing-now =
       let hold = sound-holds t (g .is-sound) in
       record {
         is-sound = g .is-sound;
-        by-next = λ k. (history k es, order-in-order dueAt (keep (inChain k) (keep waits (starts es))), each k);
+        by-next = λ k. (order left (waitingIn k h), order-in-order left (waitingIn k h), each k ∙ sym (shown-order (waitingIn k h)));
         by-previous = back;
         once = once-both (read t) (hold .chained);
-        rate = ap perSecond (g .agrees .back) ∙ g .agrees .per;
-        clock = ap (clockAfter 0) (g .agrees .back) ∙ g .agrees .clock;
+        rate = g .agrees .per;
+        clock = g .agrees .clock;
       }
     where
-      each : (k : Chain) → map (shown (read t .slots)) (links k t) ≡ chainFrom k es
+      each : (k : Chain) → map (shown (read t .slots)) (links k t) ≡ chainFrom k h
       each ByTicks = g .agrees .chain ByTicks
       each ByDate = g .agrees .chain ByDate
 
@@ -103,8 +102,8 @@ module _ (t : List ℕ) (es h : List Event) (g : SoundAndAgreeing t es h) where
 
 -- ---- one call more
 
-module _ (t : List ℕ) (es h : List Event) (g : SoundAndAgreeing t es h) (c : Call) where
-  kept-by-call : statusOn t c ≡ 0 → SoundAndAgreeing (over (effect (read t) c .state) t) (es ++ (eventOf h c ∷ [])) (eventOf h c ∷ h)
+module _ (t : List ℕ) (h : List Event) (g : SoundAndAgreeing t h) (c : Call) where
+  kept-by-call : statusOn t c ≡ 0 → SoundAndAgreeing (over (effect (read t) c .state) t) (eventOf h c ∷ h)
   kept-by-call e =
       let st = sym (status-is t c) ∙ e in
       let s = effect (read t) c .state in
@@ -112,29 +111,29 @@ module _ (t : List ℕ) (es h : List Event) (g : SoundAndAgreeing t es h) (c : C
       let hold = effect-holds t (g .is-sound) c e in
       record {
         is-sound = well-formed-sound (over s t) s hold (kept (read t) f (not (sound t)) c st);
-        agrees = rw (read-back (over s t) s hold) (agrees-step (read t) es h (g .agrees) f (not (sound t)) c st);
+        agrees = rw (read-back (over s t) s hold) (agrees-step (read t) h (g .agrees) f (not (sound t)) c st);
       }
 
-  answers-now : Answers t es c (eventOf h c)
+  answers-now : Answers t h c (eventOf h c)
   answers-now = record {
     lists = λ e.
         let z : statusOn t c ≡ 0 = sym (outcome-status t c) ∙ e in
         let st = sym (status-is t c) ∙ z in
         let f = sound-well-formed t (g .is-sound) in
-        let l = dueIn ByTicks es (eventOf h c) in
-        let m = dueIn ByDate es (eventOf h c) in
+        let l = firingIn ByTicks h (eventOf h c) in
+        let m = firingIn ByDate h (eventOf h c) in
         let o = outcome-accepted t c z in
-        let due = lists-due (read t) es h (g .agrees) f (not (sound t)) c st in
+        let due = lists-due (read t) h (g .agrees) f (not (sound t)) c st in
         let many : length (l ++ m) ≡ length (effect (read t) c .fired) =
         sym (length-map (l ++ m) entry) ∙ sym (ap length due) ∙ length-map (effect (read t) c .fired) (listed (read t .slots)) in
         record {
           ticking = l;
           dated = m;
-          ticking-order = order-in-order dueAt (keep (inChain ByTicks) (keep (fires (eventOf h c)) (starts es)));
-          dated-order = order-in-order dueAt (keep (inChain ByDate) (keep (fires (eventOf h c)) (starts es)));
+          ticking-order = order-in-order left (keep (inChain ByTicks) (keep (fires (eventOf h c)) (starts h)));
+          dated-order = order-in-order left (keep (inChain ByDate) (keep (fires (eventOf h c)) (starts h)));
           entries = ap (λ (x : Outcome). x .list) o ∙ ap (λ x. written x (effect (read t) c .lent)) due;
           counted = λ moving. ap (λ (x : Outcome). x .answer) o ∙ counts (read t) h c moving ∙ ap {B = List ℕ} (λ (n : ℕ). n ∷ []) (sym many);
-          quiet = λ still. ap₂ (λ a b. a ++ b) (none-due es (eventOf h c) ByTicks still) (none-due es (eventOf h c) ByDate still);
+          quiet = λ still. ap₂ (λ a b. a ++ b) (none-due h (g .agrees .sized) (eventOf h c) ByTicks still) (none-due h (g .agrees .sized) (eventOf h c) ByDate still);
           few = omega (arith, many, bound (read t) f c, slots-length t);
         };
     refuses = λ e. outcome-refused t c (λ z. e (outcome-status t c ∙ z)) ∙ ap (λ (n : ℕ). refused n t c) (sym (outcome-status t c));
@@ -142,30 +141,24 @@ module _ (t : List ℕ) (es h : List Event) (g : SoundAndAgreeing t es h) (c : C
 
 -- ---- a list of calls
 
--- the events of the accepted calls of xs, made after the events h
-abbrev more : List Event → List ℕ → List Call → List Event
-more h t xs = eventsFrom h (acceptedIn t xs)
-
-run : (xs : List Call) (t : List ℕ) (es h : List Event) → SoundAndAgreeing t es h
-    → SoundAndAgreeing (after t xs) (es ++ more h t xs) (reverseAux (more h t xs) h)
-run [] t es h g = rw append-nil g
-run (c ∷ xs) t es h g =
+run : (xs : List Call) (t : List ℕ) (h : List Event) → SoundAndAgreeing t h → SoundAndAgreeing (after t xs) (eventsOn h (acceptedIn t xs))
+run [] t h g = g
+run (c ∷ xs) t h g =
     let u = outcome t c .table in
     cases (eqb (statusOn t c) 0)
     (λ e.
     let z = eqb-true (statusOn t c) 0 e in
     let o : u ≡ over (effect (read t) c .state) t = ap (λ (x : Outcome). x .table) (outcome-accepted t c z) in
     let b : eqb (outcome t c .status) 0 ≡ true = ap (λ (n : ℕ). eqb n 0) (outcome-status t c) ∙ e in
-    let h′ : List Event = eventOf h c ∷ h in
-    let step : SoundAndAgreeing u (es ++ (eventOf h c ∷ [])) h′ = rw o (kept-by-call t es h g c z) in
-    rw b (rw append-assoc at (run xs u (es ++ (eventOf h c ∷ [])) h′ step)))
+    let step : SoundAndAgreeing u (eventOf h c ∷ h) = rw o (kept-by-call t h g c z) in
+    rw b (run xs u (eventOf h c ∷ h) step))
     (λ e.
     let o : u ≡ t = ap (λ (x : Outcome). x .table) (outcome-refused t c (eqb-false (statusOn t c) 0 e)) in
     let b : eqb (outcome t c .status) 0 ≡ false = ap (λ (n : ℕ). eqb n 0) (outcome-status t c) ∙ e in
-    rw b (run xs u es h (rw o g)))
+    rw b (run xs u h (rw o g)))
 
 -- the table that a lay out leaves
-begins : (w : List ℕ) (n t : ℕ) → statusOn w (layOut n t) ≡ 0 → SoundAndAgreeing (outcome w (layOut n t) .table) (laidOutFor t ∷ []) (laidOutFor t ∷ [])
+begins : (w : List ℕ) (n t : ℕ) → statusOn w (layOut n t) ≡ 0 → SoundAndAgreeing (outcome w (layOut n t) .table) (laidOutFor t ∷ [])
 begins w n t e =
     let st = sym (status-is w (layOut n t)) ∙ e in
     let p = accepted-facts (not (sound w)) (read w) (layOut n t) st in
@@ -179,11 +172,10 @@ begins w n t e =
 
 -- the table and the events after an accepted lay out and any calls
 after-calls : (w : List ℕ) (n t : ℕ) → outcome w (layOut n t) .status ≡ 0 → (xs : List Call)
-    → SoundAndAgreeing (after w (layOut n t ∷ xs)) (eventsAfter w (layOut n t ∷ xs)) (reverse (eventsAfter w (layOut n t ∷ xs)))
+    → SoundAndAgreeing (after w (layOut n t ∷ xs)) (eventsAfter w (layOut n t ∷ xs))
 after-calls w n t e xs =
     let t₀ = outcome w (layOut n t) .table in
-    let h₀ : List Event = laidOutFor t ∷ [] in
-    let g = run xs t₀ h₀ h₀ (begins w n t (sym (outcome-status w (layOut n t)) ∙ e)) in
+    let g = run xs t₀ (laidOutFor t ∷ []) (begins w n t (sym (outcome-status w (layOut n t)) ∙ e)) in
     rw (eq-eqb (outcome w (layOut n t) .status) 0 e) g
 
 pub demand3 : Demand3
@@ -191,6 +183,6 @@ demand3 w n t e cs =
     let now : List Call → List ℕ = λ xs. after w (layOut n t ∷ xs) in
     let es : List Call → List Event = λ xs. eventsAfter w (layOut n t ∷ xs) in
     record {
-      standing = λ xs ys _. standing-now (now xs) (es xs) (reverse (es xs)) (after-calls w n t e xs);
-      answers = λ xs ys c _. answers-now (now xs) (es xs) (reverse (es xs)) (after-calls w n t e xs) c;
+      standing = λ xs ys _. standing-now (now xs) (es xs) (after-calls w n t e xs);
+      answers = λ xs ys c _. answers-now (now xs) (es xs) (after-calls w n t e xs) c;
     }

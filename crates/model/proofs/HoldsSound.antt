@@ -10,14 +10,15 @@ use lib.ListN.{length, getD, length-map}
 use lib.Dec.{leb, ltb, eqb}
 use borrow.Author.Tests.{ltb-false, eqb-true, eqb-false, eq-eqb, le-leb, lt-ltb, not-false}
 use Rattle.model.specs.Lists.{count, every, allUp, All, Sorted}
-use Rattle.model.specs.Kinds.{Chain, ByTicks, ByDate, waitsIn, lastByTicks}
+use Rattle.model.specs.Kinds.{Chain, ByTicks, ByDate, kindAt, waits, waitsIn, lastByTicks}
 use Rattle.model.specs.State.{Slot, Link, State, chainOf, slotAt}
 use Rattle.calendar.specs.Calendar.{allOf, lastSecond}
 use Rattle.model.specs.Words.{first, word, field, headWord, along, slotFrom}
 use Rattle.model.specs.Sound.{headerSound, unlinked, unstarted, slotSound, previousSound, chainSound, firstSound, ticksSound, rising, datesSound, sound}
 use Rattle.model.proofs.ListLaws.{cases, and-both, every-true, all-up, all-map, all-zip, all-mapped}
 use Rattle.model.proofs.WellFormed.{Shape, WellFormed, Holds}
-use Rattle.model.proofs.Chains.{InSlots, below-waiting, in-slots, fits}
+use Rattle.model.proofs.Chains.{InSlots, in-slots, fits}
+use Rattle.model.proofs.KindLaws.{in-none}
 use Rattle.model.proofs.Each.{end, _&_, passed}
 use Rattle.model.proofs.Spelling.{headWords, holds-spelled, Loose, Parts, holds-parts, Linked, holds-linked}
 use Rattle.model.proofs.ReadBack.{count-slots, count-is, set-is, links-is, by-next}
@@ -29,7 +30,7 @@ or-if false b f = f refl
 
 -- ---- a slot
 
-slot-sound : (t : List ℕ) (i : ℕ) → Shape (slotFrom t i) → (field t 0 i ≤ 3 → Loose t i) → slotSound t i ≡ true
+slot-sound : (t : List ℕ) (i : ℕ) → Shape (slotFrom t i) → (waits (field t 0 i) ≡ false → Loose t i) → slotSound t i ≡ true
 unfolding slotSound
 slot-sound t i h loose =
     let kind = field t 0 i in
@@ -43,8 +44,8 @@ slot-sound t i h loose =
     (eq-eqb (field t 2 i) 0 (b .0) & eq-eqb (field t 4 i) 0 (b .1) & eq-eqb (field t 5 i) 0 (b .2) & end))
     & or-if (ltb kind 2) (ltb 0 (field t 4 i)) (λ e. lt-ltb 0 (field t 4 i) (h .used (ltb-false kind 2 e)))
     & cases (lastByTicks kind) (λ e. rw e (lt-ltb 0 (field t 2 i) (h .by-ticks e))) (λ e. rw e (eq-eqb (field t 2 i) 0 (h .by-date e)))
-    & or-if (ltb 3 kind) (unlinked t i) (λ e.
-    let z = loose (ltb-false 3 kind e) in
+    & or-if (waits kind) (unlinked t i) (λ e.
+    let z = loose e in
     passed (eqb (field t 3 i) 0 ∷ eqb (field t 6 i) 0 ∷ eqb (field t 7 i) 0 ∷ [])
     (eq-eqb (field t 3 i) 0 (z .wait) & eq-eqb (field t 6 i) 0 (z .next) & eq-eqb (field t 7 i) 0 (z .previous) & end))
     & end)
@@ -95,9 +96,9 @@ module _ (t : List ℕ) (s : State) (h : Holds t s) where
       & (ap (previousSound t 0) is ∙ linked-previous k t 0 0 c (holds-linked t s h k))
       & end)
 
-  loose : (i : ℕ) → 0 < i → i ≤ length (s .slots) → field t 0 i ≤ 3 → Loose t i
+  loose : (i : ℕ) → 0 < i → i ≤ length (s .slots) → waits (field t 0 i) ≡ false → Loose t i
   loose i a b p = parts .loose i a b (λ k. h .chained .meets k i
-      ∙ ap (λ (x : Slot). cond (waitsIn k (x .kind)) 1 0) (sym (parts .slots i a b)) ∙ rw (below-waiting k (field t 0 i) (omega arith)))
+      ∙ ap (λ (x : Slot). cond (waitsIn k (x .kind)) 1 0) (sym (parts .slots i a b)) ∙ rw (in-none (kindAt (field t 0 i) .chain) k p))
 
   module _ (ok : WellFormed s) where
     header-sound : headerSound t ≡ true
@@ -142,7 +143,7 @@ module _ (t : List ℕ) (s : State) (h : Holds t s) where
         let is = ap (λ (x : Slot). x .interval) (parts .slots (w .slot) (p .0 .0) (p .0 .1)) in
         le-leb (w .wait) (field t 2 (w .slot)) (omega (arith, is, p .1))) c
         (all-zip (InSlots (length (s .slots))) (λ w. w .wait ≤ slotAt (s .slots) (w .slot) .interval) c
-        (in-slots s (h .chained) ByTicks) (h .chained .bounded))))
+        (in-slots s (h .chained) ByTicks) (h .chained .within ByTicks))))
 
     dates-sound : datesSound t ≡ true
     unfolding datesSound

@@ -14,17 +14,18 @@ use Rattle.calendar.proofs.Theorems.{seconds-in-range}
 use Rattle.model.specs.Lists.{keep, place, All}
 use Rattle.model.specs.Status.{firstOf}
 use Rattle.model.specs.Calls.{Call, layOut, create, ident, cancel, delete, fireAfter, fireWhen, reset, ticksLeft, tick, setClock, getClock}
-use Rattle.model.specs.Kinds.{Chain, ByTicks, ByDate, waitsIn}
+use Rattle.model.specs.Kinds.{Chain, ByTicks, ByDate, Mode, After, When, kindAt, chainFor, sameChain, waitsIn, lastMode}
 use Rattle.model.specs.State.{Slot, Link, Clock, State, chainOf, rechain, reclock, free, slotAt, putAt, without, indexOf}
-use Rattle.model.specs.Directives.{refusals, lowestFree, laidOut, stored, unused, stopped, idled, waitingAs, started, due, fire, nearer, clockAt, clockStep, effect}
+use Rattle.model.specs.Directives.{refusals, lowestFree, laidOut, stored, unused, stopped, idled, waitingAs, started, firedAll, due, fire, nearer, clockAt, clockStep, effect}
 use Rattle.model.proofs.ListLaws.{cases, clash, all-map, all-keep, all-passed, all-zip, all-place, length-keep}
-use Rattle.model.proofs.Slots.{put-any, length-put, length-idleAll, blank}
+use Rattle.model.proofs.Slots.{put-any, length-put, length-firedAll, blank}
 use Rattle.model.proofs.WellFormed.{Chained, Shape, WellFormed}
-use Rattle.model.proofs.Chains.{other, below-waiting, idle-not-waiting, fit-both}
+use Rattle.model.proofs.Chains.{fit-both}
+use Rattle.model.proofs.KindLaws.{stopped-not-in, timed-started, timed-mode}
 use Rattle.model.proofs.ClockSteps.{clock-isSet, clock-perSecond, clock-into, clock-last, clock-unset}
 use Rattle.model.proofs.Searches.{found}
-use Rattle.model.proofs.Shapes.{free-shape, unused-shape, Interval, waiting-shape, idle-shape, shape-idleAll, timed-started}
-use Rattle.model.proofs.Steps.{Within, stopped-chain, length-laid, length-stored, length-stopped, length-started, length-fire, chained-stored, chained-stopped, chained-started, chained-fire, chained-nearer, chained-reclock, chained-laid}
+use Rattle.model.proofs.Shapes.{free-shape, unused-shape, Some, waiting-shape, idle-shape, shape-firedAll}
+use Rattle.model.proofs.Steps.{rechain-slots, rechain-clock, rechained, stored-chain, stopped-chain, length-laid, length-stored, length-stopped, length-started, room-started, length-fire, chained-stored, chained-stopped, chained-started, chained-fire, chained-nearer, chained-reclock, chained-laid}
 use Rattle.model.proofs.Refused.{Named, accepted-facts, isLayOut}
 
 -- ---- the parts of well-formedness
@@ -62,18 +63,18 @@ module _ (s : State) (h : WellFormed s) where
       (λ e. subst (AllAhead ByDate (s .clock)) (sym (h .unset e .2)) tt)
 
 formed : (s : State) → Chained s → 1 ≤ length (s .slots) → ClockFormed (s .clock) → ((i : ℕ) → Shape (slotAt (s .slots) i))
-    → AllAhead ByTicks (s .clock) (s .ticking) → AllAhead ByDate (s .clock) (s .dated) → WellFormed s
-formed s chained some clock shape ticks dates = record {
+    → ((k : Chain) → AllAhead k (s .clock) (chainOf k s)) → WellFormed s
+formed s chained some clock shape ahead = record {
   chained = chained;
   some-slot = some;
   per-low = clock .per-low;
   per-high = clock .per-high;
   into = clock .into;
   second-high = clock .second-high;
-  unset = λ e. (clock .unset e .0, clock .unset e .1, no-dates (s .dated) e dates);
+  unset = λ e. (clock .unset e .0, clock .unset e .1, no-dates (s .dated) e (ahead ByDate));
   shape = shape;
-  ticks = ticks;
-  dates = all-map (λ w p. (p .1, p .2)) (s .dated) dates;
+  ticks = ahead ByTicks;
+  dates = all-map (λ w p. (p .1, p .2)) (s .dated) (ahead ByDate);
 }
   where
     no-dates : (l : List Link) → s .clock .isSet ≡ false → AllAhead ByDate (s .clock) l → l ≡ []
@@ -82,9 +83,10 @@ formed s chained some clock shape ticks dates = record {
 
 formed-rechain : (k : Chain) (s : State) (slots : List Slot) (l : List Link)
     → Chained (rechain k s slots l) → 1 ≤ length slots → ClockFormed (s .clock) → ((i : ℕ) → Shape (slotAt slots i)) → AllAhead k (s .clock) l
-    → AllAhead (other k) (s .clock) (chainOf (other k) s) → WellFormed (rechain k s slots l)
-formed-rechain ByTicks s slots l chained some clock shape own rest = formed (rechain ByTicks s slots l) chained some clock shape own rest
-formed-rechain ByDate s slots l chained some clock shape own rest = formed (rechain ByDate s slots l) chained some clock shape rest own
+    → ((j : Chain) → sameChain j k ≡ false → AllAhead j (s .clock) (chainOf j s)) → WellFormed (rechain k s slots l)
+formed-rechain k s slots l chained some clock shape own rest =
+    formed (rechain k s slots l) chained (rw (rechain-slots s slots l k) some) (rw (rechain-clock s slots l k) clock)
+    (rw (rechain-slots s slots l k) shape) (rw (rechain-clock s slots l k) (rechained s slots l (λ j. AllAhead j (s .clock)) k own rest))
 
 -- ---- lay out
 
@@ -92,7 +94,11 @@ pub laid-well-formed : (room n t : ℕ) → 1 ≤ n → n ≤ 255 → 1 ≤ t �
 laid-well-formed room n t n₁ n₂ t₁ t₂ =
     formed (laidOut room n t) (chained-laid room n t n₂) (omega (arith, length-laid room n t))
     (record { per-low = t₁; per-high = t₂; into = t₁; second-high = zero-le; unset = λ e. (refl, refl) })
-    (λ i. rw (blank n i) free-shape) tt tt
+    (λ i. rw (blank n i) free-shape) none
+  where
+    none : (k : Chain) → AllAhead k (laidOut room n t .clock) (chainOf k (laidOut room n t))
+    none ByTicks = tt
+    none ByDate = tt
 
 -- ---- slots written
 
@@ -110,41 +116,44 @@ module _ (s : State) (h : WellFormed s) where
       → ((k : Chain) → waitsIn k (x .kind) ≡ false) → Shape x → WellFormed (stored s i x)
   formed-stored i x low high e n hx =
       formed (stored s i x) (chained-stored s (h .chained) i x low high e n) (some-put i x) (clock-formed s h) (shape-put i x hx)
-      (all-ahead s h ByTicks) (all-ahead s h ByDate)
+      (λ k. rw (stored-chain s i x k) (all-ahead s h k))
 
   formed-stopped : (i : ℕ) (x : Slot) → 0 < i → i ≤ length (s .slots)
       → ((k : Chain) → waitsIn k (x .kind) ≡ false) → Shape x → WellFormed (stopped s i x)
   formed-stopped i x low high n hx =
       formed (stopped s i x) (chained-stopped s (h .chained) i x low high n) (some-put i x) (clock-formed s h) (shape-put i x hx)
-      (ahead-without ByTicks i) (ahead-without ByDate i)
+      (λ k. rw (stopped-chain s i x k) (ahead-without k i))
 
-  formed-started : (k : Chain) (i wait interval r u : ℕ) → 0 < i → i ≤ length (s .slots) → 0 < slotAt (s .slots) i .name → 0 < r
-      → Within k wait interval → Interval k interval → Ahead k (s .clock) wait → WellFormed (started k s i wait interval r u)
-  formed-started k i wait interval r u low high name routine within last ahead =
-      let x : Slot = waitingAs k (slotAt (s .slots) i) interval r u in
-      let new : Link = record { slot = i; wait = wait } in
+  formed-started : (m : Mode) (i amount r u : ℕ) → 0 < i → i ≤ length (s .slots) → 0 < slotAt (s .slots) i .name → 0 < r
+      → Some (chainFor m) amount → Ahead (chainFor m) (s .clock) amount → WellFormed (started m s i amount r u)
+  formed-started m i amount r u low high name routine some ahead =
+      let k = chainFor m in
+      let x : Slot = waitingAs m (slotAt (s .slots) i) amount r u in
+      let new : Link = record { slot = i; wait = amount } in
       formed-rechain k (stopped s i x) (putAt (s .slots) i x) (place (λ w. w .wait) new (chainOf k (stopped s i x)))
-      (chained-started k s (h .chained) i wait interval r u low high within)
+      (chained-started m s (h .chained) i amount r u low high)
       (some-put i x) (clock-formed s h)
-      (shape-put i x (waiting-shape k (slotAt (s .slots) i) interval r u name routine last))
+      (shape-put i x (waiting-shape m (slotAt (s .slots) i) amount r u name routine some))
       (rw (stopped-chain s i x k) (all-place (λ w. Ahead k (s .clock) (w .wait)) (λ w. w .wait) new (without i (chainOf k s)) ahead (ahead-without k i)))
-      (rw (stopped-chain s i x (other k)) (ahead-without (other k) i))
+      (λ j _. rw (stopped-chain s i x j) (ahead-without j i))
 
 -- ---- timers fired
 
 -- dated timers at or before the clock's second fire: the others are after it
 formed-fired : (s : State) → Chained s → 1 ≤ length (s .slots) → ClockFormed (s .clock) → ((i : ℕ) → Shape (slotAt (s .slots) i))
-    → AllAhead ByTicks (s .clock) (s .ticking) → All (λ w. (s .clock .isSet ≡ true) × (w .wait ≤ lastSecond)) (s .dated)
-    → WellFormed (fire ByDate (s .clock .second) s)
-formed-fired s chained some clock shape ticks dates =
+    → ((k : Chain) → sameChain k ByDate ≡ false → AllAhead k (s .clock) (chainOf k s))
+    → All (λ w. (s .clock .isSet ≡ true) × (w .wait ≤ lastSecond)) (s .dated) → WellFormed (fire ByDate (s .clock .second) s)
+formed-fired s chained some clock shape rest dates =
     let now = s .clock .second in
     let after : Link → Bool = λ w. ltb now (w .wait) in
     let later = keep after (s .dated) in
-    formed (fire ByDate now s) (chained-fire ByDate now s chained) (omega (arith, length-idleAll (due ByDate now s) (s .slots))) clock
-    (shape-idleAll (due ByDate now s) (s .slots) shape) ticks
+    formed-rechain ByDate s (firedAll (due ByDate now s) (s .slots)) later
+    (chained-fire ByDate now s chained) (omega (arith, length-firedAll (due ByDate now s) (s .slots))) clock
+    (shape-firedAll (due ByDate now s) (s .slots) shape)
     (all-map (λ w p. (p .1 .0, ltb-true now (w .wait) (p .0), p .1 .1)) later
     (all-zip (λ w. after w ≡ true) (λ w. (s .clock .isSet ≡ true) × (w .wait ≤ lastSecond)) later
     (all-passed after (s .dated)) (all-keep (λ w. (s .clock .isSet ≡ true) × (w .wait ≤ lastSecond)) after (s .dated) dates)))
+    rest
 
 step-formed : (c : Clock) → ClockFormed c → ClockFormed (clockStep c)
 step-formed c h = record {
@@ -162,18 +171,27 @@ module _ (s : State) (h : WellFormed s) where
       let clock = clockStep (s .clock) in
       formed-fired (reclock (fire ByTicks 0 near) clock)
       (chained-reclock (fire ByTicks 0 near) clock (chained-fire ByTicks 0 near (chained-nearer s (h .chained))))
-      (omega (arith, length-idleAll (due ByTicks 0 near) (s .slots), h .some-slot))
+      (omega (arith, length-firedAll (due ByTicks 0 near) (s .slots), h .some-slot))
       (step-formed (s .clock) (clock-formed s h))
-      (shape-idleAll (due ByTicks 0 near) (s .slots) (h .shape))
-      (all-map (λ w p. ltb-true 0 (w .wait) p) (keep (λ w. ltb 0 (w .wait)) (near .ticking)) (all-passed (λ w. ltb 0 (w .wait)) (near .ticking)))
+      (shape-firedAll (due ByTicks 0 near) (s .slots) (h .shape))
+      rest
       (all-map (λ w p. (clock-isSet (s .clock) ∙ p .0, p .2)) (s .dated) (all-ahead s h ByDate))
+    where
+      rest : (k : Chain) → sameChain k ByDate ≡ false → AllAhead k (clockStep (s .clock)) (chainOf k (reclock (fire ByTicks 0 (nearer s)) (clockStep (s .clock))))
+      rest ByTicks e =
+          all-map (λ w p. ltb-true 0 (w .wait) p) (keep (λ w. ltb 0 (w .wait)) (nearer s .ticking)) (all-passed (λ w. ltb 0 (w .wait)) (nearer s .ticking))
+      rest ByDate e = clash e
 
   formed-clock-set : (second : ℕ) → second ≤ lastSecond → WellFormed (fire ByDate second (reclock s (clockAt (s .clock) second 0)))
   formed-clock-set second last =
       let clock = clockAt (s .clock) second 0 in
       formed-fired (reclock s clock) (chained-reclock s clock (h .chained)) (h .some-slot)
       (record { per-low = h .per-low; per-high = h .per-high; into = h .per-low; second-high = last; unset = λ e. clash e })
-      (h .shape) (h .ticks) (all-map (λ w p. (refl, p .1)) (s .dated) (h .dates))
+      (h .shape) rest (all-map (λ w p. (refl, p .1)) (s .dated) (h .dates))
+    where
+      rest : (k : Chain) → sameChain k ByDate ≡ false → AllAhead k (clockAt (s .clock) second 0) (chainOf k (reclock s (clockAt (s .clock) second 0)))
+      rest ByTicks e = h .ticks
+      rest ByDate e = clash e
 
   -- ---- every call
 
@@ -189,31 +207,32 @@ module _ (s : State) (h : WellFormed s) where
         let p = accepted-facts unsound s (create name) e in
         let at = found (λ x. eqb (x .kind) 0) (s .slots) (p .1) in
         formed-stored s h (lowestFree s) (unused name) (at .low) (at .high) (eqb-true (slotAt (s .slots) (lowestFree s) .kind) 0 (at .passes))
-        (λ k. below-waiting k 1 (omega arith)) (unused-shape name (p .0))
+        (λ k. refl) (unused-shape name (p .0))
     kept (ident name) e = h
     kept (cancel id) e =
         let is = accepted-facts unsound s (cancel id) e in
         let x = slotAt (s .slots) (indexOf id) in
-        formed-stopped s h (indexOf id) (idled x) (is .low) (is .high) (λ k. idle-not-waiting k (x .kind)) (idle-shape x (h .shape (indexOf id)))
+        formed-stopped s h (indexOf id) (idled x) (is .low) (is .high) (λ k. stopped-not-in k (x .kind)) (idle-shape x (h .shape (indexOf id)))
     kept (delete id) e =
         let is = accepted-facts unsound s (delete id) e in
-        formed-stopped s h (indexOf id) free (is .low) (is .high) (λ k. below-waiting k 0 (omega arith)) free-shape
+        formed-stopped s h (indexOf id) free (is .low) (is .high) (λ k. refl) free-shape
     kept (fireAfter id n r u) e =
         let p = accepted-facts unsound s (fireAfter id n r u) e in
         let is = p .names-one in
-        formed-started s h ByTicks (indexOf id) n n r u (is .low) (is .high) (has-name id is) (p .routine) (omega arith) (p .ticks) (p .ticks)
+        formed-started s h After (indexOf id) n r u (is .low) (is .high) (has-name id is) (p .routine) (p .ticks) (p .ticks)
     kept (fireWhen id w r u) e =
         let p = accepted-facts unsound s (fireWhen id w r u) e in
         let is = p .names-one in
-        formed-started s h ByDate (indexOf id) (secondsOf w) 0 r u (is .low) (is .high) (has-name id is) (p .routine) tt refl
+        formed-started s h When (indexOf id) (secondsOf w) r u (is .low) (is .high) (has-name id is) (p .routine) tt
         (p .running, p .later, seconds-in-range w (p .is-valid))
     kept (reset id) e =
         let p = accepted-facts unsound s (reset id) e in
         let is = p .0 in
         let x = slotAt (s .slots) (indexOf id) in
         let some = h .shape (indexOf id) .by-ticks (p .1) in
-        formed-started s h ByTicks (indexOf id) (x .interval) (x .interval) (x .routine) (x .userData) (is .low) (is .high) (has-name id is)
-        (h .shape (indexOf id) .used (timed-started (x .kind) (p .1))) (omega arith) some some
+        let by-ticks : chainFor (lastMode (x .kind)) ≡ ByTicks = timed-mode (kindAt (x .kind) .last) (p .1) in
+        formed-started s h (lastMode (x .kind)) (indexOf id) (x .interval) (x .routine) (x .userData) (is .low) (is .high) (has-name id is)
+        (h .shape (indexOf id) .used (timed-started (x .kind) (p .1))) (rw by-ticks some) (rw by-ticks some)
     kept (ticksLeft id) e = h
     kept (tick list) e = formed-ticked list
     kept (setClock w list) e = formed-clock-set (secondsOf w) (seconds-in-range w (accepted-facts unsound s (setClock w list) e .1))
@@ -230,7 +249,7 @@ module _ (s : State) where
   effect-room (delete id) = refl
   effect-room (fireAfter id n r u) = refl
   effect-room (fireWhen id w r u) = refl
-  effect-room (reset id) = refl
+  effect-room (reset id) = let x = slotAt (s .slots) (indexOf id) in room-started (lastMode (x .kind)) s (indexOf id) (x .interval) (x .routine) (x .userData)
   effect-room (ticksLeft id) = refl
   effect-room (tick list) = refl
   effect-room (setClock w list) = refl
@@ -243,11 +262,11 @@ module _ (s : State) where
   slots-kept (ident name) l = refl
   slots-kept (cancel id) l = length-stopped s (indexOf id) (idled (slotAt (s .slots) (indexOf id)))
   slots-kept (delete id) l = length-stopped s (indexOf id) free
-  slots-kept (fireAfter id n r u) l = length-started ByTicks s (indexOf id) n n r u
-  slots-kept (fireWhen id w r u) l = length-started ByDate s (indexOf id) (secondsOf w) 0 r u
+  slots-kept (fireAfter id n r u) l = length-started After s (indexOf id) n r u
+  slots-kept (fireWhen id w r u) l = length-started When s (indexOf id) (secondsOf w) r u
   slots-kept (reset id) l =
       let x = slotAt (s .slots) (indexOf id) in
-      length-started ByTicks s (indexOf id) (x .interval) (x .interval) (x .routine) (x .userData)
+      length-started (lastMode (x .kind)) s (indexOf id) (x .interval) (x .routine) (x .userData)
   slots-kept (ticksLeft id) l = refl
   slots-kept (tick list) l =
       let clock = clockStep (s .clock) in

@@ -3,6 +3,7 @@
 pub mod ListLaws
 pub mod Order
 pub mod Each
+pub mod KindLaws
 pub mod WellFormed
 pub mod Slots
 pub mod Chains
@@ -12,7 +13,7 @@ pub mod Shapes
 pub mod SoundHolds
 pub mod HoldsSound
 pub mod ClockSteps
-pub mod Idled
+pub mod FiredSlots
 pub mod Searches
 pub mod Steps
 pub mod Refused

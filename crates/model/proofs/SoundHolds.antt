@@ -10,14 +10,15 @@ use lib.ListN.{length, getD, List·getD-eq-default}
 use lib.Dec.{leb, ltb, eqb}
 use borrow.Author.Tests.{leb-true, ltb-true, ltb-false, eqb-true, eqb-false, eq-eqb, ne-eqb, le-ltb}
 use Rattle.model.specs.Lists.{count, every, allUp, All, Sorted}
-use Rattle.model.specs.Kinds.{Chain, ByTicks, ByDate, waitsIn, lastByTicks}
+use Rattle.model.specs.Kinds.{Chain, ByTicks, ByDate, kindAt, waits, waitsIn, lastByTicks}
 use Rattle.model.specs.State.{Slot, Link, chainOf, free, slotAt}
 use Rattle.calendar.specs.Calendar.{allOf, lastSecond}
 use Rattle.model.specs.Words.{first, word, field, headWord, along, total, linksFrom, links, slotFrom, read}
 use Rattle.model.specs.Sound.{headerSound, unlinked, unstarted, slotSound, previousSound, chainSound, firstSound, ticksSound, rising, datesSound, sound}
-use Rattle.model.proofs.ListLaws.{cases, both, or-else, all-at, up-at, every-all, all-map, all-zip}
-use Rattle.model.proofs.WellFormed.{timesIn, Chained, Shape, WellFormed, Holds}
-use Rattle.model.proofs.Chains.{InSlots, below-waiting}
+use Rattle.model.proofs.ListLaws.{cases, both, or-else, all-at, up-at, every-all, all, all-map, all-zip}
+use Rattle.model.proofs.WellFormed.{timesIn, Fits, Chained, Shape, WellFormed, Holds}
+use Rattle.model.proofs.KindLaws.{none-in}
+use Rattle.model.proofs.Chains.{InSlots}
 use Rattle.model.proofs.Each.{end, _&_, each-at}
 use Rattle.model.proofs.Spelling.{headWords, Lay, Loose, Parts, parts-holds, difference-total, Linked, linked-lay}
 use Rattle.model.proofs.Shapes.{free-shape}
@@ -149,7 +150,7 @@ slotTests t i kind =
     ∷ (ltb 1 kind || unstarted t i)
     ∷ (ltb kind 2 || ltb 0 (field t 4 i))
     ∷ cond (lastByTicks kind) (ltb 0 (field t 2 i)) (eqb (field t 2 i) 0)
-    ∷ (ltb 3 kind || unlinked t i) ∷ []
+    ∷ (waits kind || unlinked t i) ∷ []
 
 module _ (t : List ℕ) (i : ℕ) (ok : slotSound t i ≡ true) where
   slot-test : (m : ℕ) → getD (slotTests t i (field t 0 i)) m true ≡ true
@@ -176,12 +177,8 @@ module _ (t : List ℕ) (i : ℕ) (ok : slotSound t i ≡ true) where
   loose f =
       let kind = field t 0 i in
       let zeros = eqb (field t 3 i) 0 ∷ eqb (field t 6 i) 0 ∷ eqb (field t 7 i) 0 ∷ [] in
-      let small : kind ≤ 3 = low kind (leb-true kind 5 (slot-test 0)) (eqb-false kind 4 (f ByTicks)) (eqb-false kind 5 (f ByDate)) in
-      let z : (m : ℕ) → getD zeros m true ≡ true = all-at zeros (or-else (ltb 3 kind) (unlinked t i) (slot-test 6) (le-ltb 3 kind small)) in
+      let z : (m : ℕ) → getD zeros m true ≡ true = all-at zeros (or-else (waits kind) (unlinked t i) (slot-test 6) (none-in (kindAt kind .chain) f)) in
       record { wait = eqb-true (field t 3 i) 0 (z 0); next = eqb-true (field t 6 i) 0 (z 1); previous = eqb-true (field t 7 i) 0 (z 2) }
-    where
-      low : (n : ℕ) → n ≤ 5 → (n ≡ 4 → ⊥) → (n ≡ 5 → ⊥) → n ≤ 3
-      low n a b c = omega arith
 
 -- ---- what a chain says
 
@@ -248,10 +245,11 @@ module _ (t : List ℕ) (ok : sound t ≡ true) where
 
   meets : (k : Chain) (i : ℕ) → timesIn (links k t) i ≡ cond (waitsIn k (slotAt (read t .slots) i .kind)) 1 0
   meets k = every-slot (λ i x. timesIn (links k t) i ≡ cond (waitsIn k (x .kind)) 1 0) t (chain-ok k .meets)
-      (λ i out. outside (word t 0) i (links k t) (chain-ok k .in-slots) out ∙ rw (below-waiting k 0 (omega arith)))
+      (λ i out. outside (word t 0) i (links k t) (chain-ok k .in-slots) out)
 
-  within : All (λ w. w .wait ≤ slotAt (read t .slots) (w .slot) .interval) (links ByTicks t)
-  within =
+  within : (k : Chain) → All (Fits k (read t .slots)) (chainOf k (read t))
+  within ByDate = all (λ w. tt) (links ByDate t)
+  within ByTicks =
       all-map (λ w p.
       let is = slot-read t (w .slot) (p .0 .0) (p .0 .1) in
       subst (λ (x : Slot). w .wait ≤ x .interval) (sym is) (leb-true (w .wait) (field t 2 (w .slot)) (p .1)))
@@ -264,7 +262,7 @@ module _ (t : List ℕ) (ok : sound t ≡ true) where
     few = omega (arith, slots-length t, sound-header .few);
     meets = λ k i. ap (λ (c : List Link). timesIn c i) (read-chain t k) ∙ meets k i;
     rises = λ k. subst (Sorted (λ w. w .wait)) (sym (read-chain t k)) (rises k);
-    bounded = within;
+    within = within;
   }
 
   parts : Parts t (read t)

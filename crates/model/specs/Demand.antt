@@ -8,13 +8,13 @@ use lib.ListN.{length}
 use lib.Dec.{eqb}
 use Rattle.model.specs.Lists.{keep, count, InOrder}
 use Rattle.model.specs.Calls.{Call, layOut}
-use Rattle.model.specs.Kinds.{Chain, ByTicks, ByDate}
-use Rattle.model.specs.State.{Slot, Link, listed}
+use Rattle.model.specs.Kinds.{Chain, ByTicks, ByDate, kindAt}
+use Rattle.model.specs.State.{Slot, Link, slotAt, listed}
 use Rattle.model.specs.Directives.{effect}
 use Rattle.model.specs.Words.{word, field, first, along, links, read}
 use Rattle.model.specs.Sound.{sound}
 use Rattle.model.specs.Outcome.{outcome, written, refused}
-use Rattle.model.specs.History.{Event, Placed, Waiting, eventOf, eventsFrom, perSecond, clockAfter, moves, starts, waits, fires, inChain, dueAt, waiting, entry}
+use Rattle.model.specs.History.{Event, Placed, Waiting, eventOf, eventsOn, perSecond, clockAfter, moves, starts, waits, fires, inChain, left, waiting, entry}
 
 -- Each call gets the table that the last one left.
 abbrev pub after : List ℕ → List Call → List ℕ
@@ -26,24 +26,26 @@ abbrev pub acceptedIn : List ℕ → List Call → List Call
 acceptedIn t [] = []
 acceptedIn t (c ∷ cs) = cond (eqb (outcome t c .status) 0) (c ∷ acceptedIn (outcome t c .table) cs) (acceptedIn (outcome t c .table) cs)
 
--- a link of a chain with the entry of its slot
+-- a link of a chain with what its slot shows
 abbrev pub shown : List Slot → Link → Waiting
-shown slots w = record { shows = listed slots w; wait = w .wait }
+shown slots w =
+    let x = slotAt slots (w .slot) in
+    record { shows = listed slots w; mode = kindAt (x .kind) .last; interval = x .interval; wait = w .wait }
 
 -- What the table t has to be after these events.
 pub record Standing (t : List ℕ) (es : List Event) : Type 0 where
   pub is-sound : sound t ≡ true
   -- Each chain gives its own waiting timers in firing order by next from word 5 or 6, the earlier start first among equals,
-  -- with their ticks left or dates, and the routine and data of their starts; and nothing else.
-  pub by-next : (k : Chain) → (l : List Placed) × InOrder dueAt (keep (inChain k) (keep waits (starts es))) l
+  -- with their ticks left or dates, and the interval, routine and data of their starts; and nothing else.
+  pub by-next : (k : Chain) → (l : List Placed) × InOrder left (keep (inChain k) (keep waits (starts es))) l
       × (map (shown (read t .slots)) (links k t) ≡ map waiting l)
   -- The same in reverse by previous from its last slot.
   pub by-previous : (k : Chain) → along (field t 7) (word t 0) (first (reverse (links k t))) ≡ map (λ w. w .slot) (reverse (links k t))
   -- Each waiting timer stands there once.
   pub once : (i : ℕ) → count (λ w. eqb (w .slot) i) (links ByTicks t) + count (λ w. eqb (w .slot) i) (links ByDate t) ≤ 1
   -- The table's T and its clock, counted in ticks, are those of the events; it is unset where theirs is.
-  pub rate : perSecond (reverse es) ≡ word t 1
-  pub clock : clockAfter 0 (reverse es) ≡ cond (eqb (word t 2) 1) (some (word t 3 * word t 1 + word t 4)) none
+  pub rate : perSecond es ≡ word t 1
+  pub clock : clockAfter 0 es ≡ cond (eqb (word t 2) 1) (some (word t 3 * word t 1 + word t 4)) none
 
 -- What the accepted call c, which is the event e, has to list on the table t after these events: the timers that fire in it, those due in this
 -- call and not ended before, interval ones first, each kind in firing order. A tick and a set clock answer their number, any other call lists
@@ -51,8 +53,8 @@ pub record Standing (t : List ℕ) (es : List Event) : Type 0 where
 pub record Lists (t : List ℕ) (es : List Event) (c : Call) (e : Event) : Type 0 where
   pub ticking : List Placed
   pub dated : List Placed
-  pub ticking-order : InOrder dueAt (keep (inChain ByTicks) (keep (fires e) (starts es))) ticking
-  pub dated-order : InOrder dueAt (keep (inChain ByDate) (keep (fires e) (starts es))) dated
+  pub ticking-order : InOrder left (keep (inChain ByTicks) (keep (fires e) (starts es))) ticking
+  pub dated-order : InOrder left (keep (inChain ByDate) (keep (fires e) (starts es))) dated
   pub entries : outcome t c .list ≡ written (map entry (ticking ++ dated)) (effect (read t) c .lent)
   pub counted : moves e ≡ true → outcome t c .answer ≡ length (ticking ++ dated) ∷ []
   pub quiet : moves e ≡ false → ticking ++ dated ≡ []
@@ -63,15 +65,15 @@ pub record Answers (t : List ℕ) (es : List Event) (c : Call) (e : Event) : Typ
   pub lists : outcome t c .status ≡ 0 → Lists t es c e
   pub refuses : (outcome t c .status ≡ 0 → ⊥) → outcome t c ≡ refused (outcome t c .status) t c
 
--- what the accepted calls of a list mean
+-- what the accepted calls of a list mean, the latest first
 abbrev pub eventsAfter : List ℕ → List Call → List Event
-eventsAfter w cs = eventsFrom [] (acceptedIn w cs)
+eventsAfter w cs = eventsOn [] (acceptedIn w cs)
 
 -- What is demanded of the whole list cs after a lay out for n and t of the slice w: after every prefix, and in every call.
 pub record Demanded (w : List ℕ) (n t : ℕ) (cs : List Call) : Type 0 where
   pub standing : (xs ys : List Call) → xs ++ ys ≡ cs → Standing (after w (layOut n t ∷ xs)) (eventsAfter w (layOut n t ∷ xs))
   pub answers : (xs ys : List Call) (c : Call) → xs ++ (c ∷ ys) ≡ cs →
-      Answers (after w (layOut n t ∷ xs)) (eventsAfter w (layOut n t ∷ xs)) c (eventOf (reverse (eventsAfter w (layOut n t ∷ xs))) c)
+      Answers (after w (layOut n t ∷ xs)) (eventsAfter w (layOut n t ∷ xs)) c (eventOf (eventsAfter w (layOut n t ∷ xs)) c)
 
 -- The single claim: every slice, every accepted lay out on it, every list of calls.
 abbrev pub Demand3 : Type 0

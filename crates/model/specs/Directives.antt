@@ -9,7 +9,7 @@ use Rattle.calendar.specs.Calendar.{allOf, valid, secondsOf, lastSecond, dateOf
 use Rattle.model.specs.Lists.{keep, place}
 use Rattle.model.specs.Status.{Refusal, when, InvalidName, InvalidId, TooMany, InvalidSize, InvalidAddress, InvalidNumber, NotDefined, InvalidClock, NotSound, ListTooShort}
 use Rattle.model.specs.Calls.{Call, layOut, create, ident, cancel, delete, fireAfter, fireWhen, reset, ticksLeft, tick, setClock, getClock}
-use Rattle.model.specs.Kinds.{Chain, ByTicks, ByDate, waitingKind, idleOf, lastByTicks}
+use Rattle.model.specs.Kinds.{Chain, ByTicks, ByDate, Mode, After, When, kindAt, chainFor, waitingKind, lastByTicks, lastMode}
 use Rattle.model.specs.State.{Slot, Link, Clock, State, chainOf, rechain, reclock, free, slotAt, putAt, lowest, without, waitAt, idBase, indexOf, names}
 
 -- ---- when a call is refused, in the order of the rules
@@ -73,36 +73,48 @@ stopped s i x =
     let slots = putAt (s .slots) i x in
     rechain ByTicks (rechain ByDate s slots (without i (s .dated))) slots (without i (s .ticking))
 
+-- the slot with another kind
+abbrev pub became : ℕ → Slot → Slot
+became kind x = record { kind = kind; name = x .name; interval = x .interval; routine = x .routine; userData = x .userData }
+
 -- Cancel: a waiting timer becomes idle of its own kind. One that isn't waiting stays as it is. (Its follower takes over its wait since the other
 -- links keep their ticks left, and a wait is the difference of two: `Words`.)
 abbrev pub idled : Slot → Slot
-idled x = record { kind = idleOf (x .kind); name = x .name; interval = x .interval; routine = x .routine; userData = x .userData }
+idled x = became (kindAt (x .kind) .stopped) x
 
 -- It goes behind every timer due at the same tick, or date.
-abbrev pub queued : Chain → State → ℕ → ℕ → State
-queued k s i wait = rechain k s (s .slots) (place (λ w. w .wait) (record { slot = i; wait = wait }) (chainOf k s))
+abbrev pub joined : Chain → State → ℕ → ℕ → State
+joined k s i wait = rechain k s (s .slots) (place (λ w. w .wait) (record { slot = i; wait = wait }) (chainOf k s))
 
--- the slot of a timer that was started in chain k
-abbrev pub waitingAs : Chain → Slot → ℕ → ℕ → ℕ → Slot
-waitingAs k x interval routine userData =
-    record { kind = waitingKind k; name = x .name; interval = interval; routine = routine; userData = userData }
+-- the interval of a start: its ticks, 0 for one by date
+abbrev pub intervalIn : Chain → ℕ → ℕ
+intervalIn ByTicks n = n
+intervalIn ByDate d = 0
+
+-- the slot of a timer that was started for so many ticks, or for a date
+abbrev pub waitingAs : Mode → Slot → ℕ → ℕ → ℕ → Slot
+waitingAs m x amount routine userData =
+    record { kind = waitingKind m; name = x .name; interval = intervalIn (chainFor m) amount; routine = routine; userData = userData }
 
 -- Fire after, fire when: cancelled if waiting, then waits.
-abbrev pub started : Chain → State → ℕ → ℕ → ℕ → ℕ → ℕ → State
-started k s i wait interval routine userData =
-    queued k (stopped s i (waitingAs k (slotAt (s .slots) i) interval routine userData)) i wait
+abbrev pub started : Mode → State → ℕ → ℕ → ℕ → ℕ → State
+started m s i amount routine userData =
+    joined (chainFor m) (stopped s i (waitingAs m (slotAt (s .slots) i) amount routine userData)) i amount
 
 -- A fired timer becomes idle of its kind.
-abbrev pub idleAll : List Link → List Slot → List Slot
-idleAll [] slots = slots
-idleAll (w ∷ ws) slots = idleAll ws (putAt slots (w .slot) (idled (slotAt slots (w .slot))))
+abbrev pub fired : Slot → Slot
+fired x = became (kindAt (x .kind) .fired) x
+
+abbrev pub firedAll : List Link → List Slot → List Slot
+firedAll [] slots = slots
+firedAll (w ∷ ws) slots = firedAll ws (putAt slots (w .slot) (fired (slotAt slots (w .slot))))
 
 -- the timers of chain k at or before a number, in chain order; and the state after they fired
 abbrev pub due : Chain → ℕ → State → List Link
 due k limit s = keep (λ w. leb (w .wait) limit) (chainOf k s)
 
 abbrev pub fire : Chain → ℕ → State → State
-fire k limit s = rechain k s (idleAll (due k limit s) (s .slots)) (keep (λ w. ltb limit (w .wait)) (chainOf k s))
+fire k limit s = rechain k s (firedAll (due k limit s) (s .slots)) (keep (λ w. ltb limit (w .wait)) (chainOf k s))
 
 -- Tick: every interval timer comes one tick nearer.
 abbrev pub closer : Link → Link
@@ -167,11 +179,11 @@ effect s (create name) = leaves (stored s (lowestFree s) (unused name)) (idBase 
 effect s (ident name) = leaves s (idBase + lowestNamed s name)
 effect s (cancel id) = leaves (stopped s (indexOf id) (idled (slotAt (s .slots) (indexOf id)))) 0
 effect s (delete id) = leaves (stopped s (indexOf id) free) 0
-effect s (fireAfter id n r u) = leaves (started ByTicks s (indexOf id) n n r u) 0
-effect s (fireWhen id w r u) = leaves (started ByDate s (indexOf id) (secondsOf w) 0 r u) 0
+effect s (fireAfter id n r u) = leaves (started After s (indexOf id) n r u) 0
+effect s (fireWhen id w r u) = leaves (started When s (indexOf id) (secondsOf w) r u) 0
 effect s (reset id) =
     let x = slotAt (s .slots) (indexOf id) in
-    leaves (started ByTicks s (indexOf id) (x .interval) (x .interval) (x .routine) (x .userData)) 0
+    leaves (started (lastMode (x .kind)) s (indexOf id) (x .interval) (x .routine) (x .userData)) 0
 effect s (ticksLeft id) = leaves s (waitAt (indexOf id) (s .ticking))
 effect s (tick list) = ticked s list
 effect s (setClock w list) = clockMoved s (secondsOf w) list

@@ -5,7 +5,7 @@ use mathlib.Core.List.{List, [], _∷_}
 use lib.ListN.{length}
 use lib.Dec.{leb, ltb, eqb}
 use Rattle.model.specs.Lists.{count, every, allUp}
-use Rattle.model.specs.Kinds.{Chain, ByTicks, ByDate, waitsIn, lastByTicks}
+use Rattle.model.specs.Kinds.{Chain, ByTicks, ByDate, waits, waitsIn, lastByTicks}
 use Rattle.model.specs.State.{Link}
 use Rattle.calendar.specs.Calendar.{allOf, lastSecond}
 use Rattle.model.specs.Words.{word, field, headWord, along, links}
@@ -26,7 +26,7 @@ abbrev pub unstarted : List ℕ → ℕ → Bool
 unstarted t i = allOf (eqb (field t 2 i) 0 ∷ eqb (field t 4 i) 0 ∷ eqb (field t 5 i) 0 ∷ [])
 
 -- Every kind is 0 to 5. Kind 0: every other word zero. Kind 1: name not zero, the rest zero. Kinds 2 to 5: name and routine not zero.
--- Interval is 1 or more for 2 and 4, zero for 3 and 5. Kinds 2 and 3 have wait and links zero.
+-- Interval is 1 or more for 2 and 4, zero for 3 and 5. Those that wait in no chain have wait and links zero.
 abbrev pub slotSoundAs : List ℕ → ℕ → ℕ → Bool
 slotSoundAs t i kind = allOf (
     leb kind 5
@@ -35,7 +35,7 @@ slotSoundAs t i kind = allOf (
     ∷ (ltb 1 kind || unstarted t i)
     ∷ (ltb kind 2 || ltb 0 (field t 4 i))
     ∷ cond (lastByTicks kind) (ltb 0 (field t 2 i)) (eqb (field t 2 i) 0)
-    ∷ (ltb 3 kind || unlinked t i) ∷ [])
+    ∷ (waits kind || unlinked t i) ∷ [])
 
 unfoldable pub slotSound : List ℕ → ℕ → Bool
 slotSound t i = slotSoundAs t i (field t 0 i)

@@ -17,11 +17,10 @@ use Rattle.calendar.specs.Calendar.{lastSecond}
 use Rattle.model.specs.Lists.{All}
 use Rattle.model.specs.declared.Chain.{Chain}
 use Rattle.model.specs.declared.Chain.the-variants.{ByTicks, ByDate}
-use Rattle.model.specs.Kinds.{waitingKind}
 use Rattle.model.specs.Words.{word, field, along}
 use Rattle.model.specs.Sound.{previousSound}
 use Rattle.model.proofs.ListLaws.{cases, both, and-both, or-right, or-else}
-use Rattle.table.specs.Walks.{Stand, standing, slotTested, linkTested, waitTested, stepTested, step, walkTested}
+use Rattle.table.specs.Walks.{Stand, standing, slotTested, linkTested, waitTested, stepTested, step, walkTested, kindIn}
 use Rattle.table.proofs.SlotTests.{tested}
 use Rattle.table.proofs.StepTests.{InTicks, in-ticks, InDates, in-dates, dates-in, link-in}
 use Rattle.table.proofs.Sums.{times, none-times}
@@ -37,16 +36,16 @@ module _ (t : List ℕ) where
   Slots = (j : ℕ) → 1 ≤ j → j ≤ N → slotTested t j ≡ true
 
   -- what a step of a walk that tests everything says
-  in-step : (k : Chain) (x : Stand) → stepSound k t N x ≡ true → InChain t N (waitingKind k) (x .slot) (x .before)
+  in-step : (k : Chain) (x : Stand) → stepSound k t N x ≡ true → InChain t N (kindIn k) (x .slot) (x .before)
   in-step k x e =
-      in-chain t N (waitingKind k) (x .slot) (x .before)
-      (both (linkSound t N (waitingKind k) (x .slot) (x .before)) (waitSound k t (x .slot) (x .reached)) e .0)
+      in-chain t N (kindIn k) (x .slot) (x .before)
+      (both (linkSound t N (kindIn k) (x .slot) (x .before)) (waitSound k t (x .slot) (x .reached)) e .0)
 
-  step-in : (k : Chain) (x : Stand) → InChain t N (waitingKind k) (x .slot) (x .before) → waitSound k t (x .slot) (x .reached) ≡ true
+  step-in : (k : Chain) (x : Stand) → InChain t N (kindIn k) (x .slot) (x .before) → waitSound k t (x .slot) (x .reached) ≡ true
       → stepSound k t N x ≡ true
   step-in k x h w =
-      and-both (linkSound t N (waitingKind k) (x .slot) (x .before)) (waitSound k t (x .slot) (x .reached))
-      (chain-in t N (waitingKind k) (x .slot) (x .before) h) w
+      and-both (linkSound t N (kindIn k) (x .slot) (x .before)) (waitSound k t (x .slot) (x .reached))
+      (chain-in t N (kindIn k) (x .slot) (x .before) h) w
 
   -- ---- the interval chain
 
@@ -102,9 +101,9 @@ module _ (t : List ℕ) where
       rw (along-first (field t 6) f (x .slot) (in-step k x (a .0) .link .low)) (g x (a .0), each k P g c f (step k t x) (a .1))
 
   pub kinds : (k : Chain) (c f : ℕ) (x : Stand) → walk k t N c x ≡ true
-      → All (λ j. (1 ≤ j) × (field t 0 j ≡ waitingKind k)) (along (field t 6) f (x .slot))
+      → All (λ j. (1 ≤ j) × (field t 0 j ≡ kindIn k)) (along (field t 6) f (x .slot))
   kinds k c f x e =
-      each k (λ j. (1 ≤ j) × (field t 0 j ≡ waitingKind k))
+      each k (λ j. (1 ≤ j) × (field t 0 j ≡ kindIn k))
       (λ y s.
       let h = in-step k y s in
       (h .link .low, h .kind))

@@ -2,6 +2,7 @@
 -- why a walk that ends meets each slot once; Walked that a walk decides its chain; Follows that what is not tested follows; Pass that the pass
 -- decides the whole.
 pub mod Tests
+pub mod KindTests
 pub mod HeaderTests
 pub mod SlotTests
 pub mod StepTests

@@ -13,12 +13,13 @@ use borrow.Author.Tests.{eqb-true, eqb-false, eq-eqb, ne-eqb}
 use Rattle.model.specs.Lists.{allUp, All}
 use Rattle.model.specs.declared.Chain.{Chain}
 use Rattle.model.specs.declared.Chain.the-variants.{ByTicks, ByDate}
-use Rattle.model.specs.Kinds.{waitsIn, waitingKind}
+use Rattle.model.specs.Kinds.{waitsIn}
 use Rattle.model.specs.Words.{word, field, headWord, along}
 use Rattle.model.specs.Sound.{headerSound, slotSound, chainSound, sound}
 use Rattle.model.proofs.ListLaws.{cases, both, and-both, or-left, or-right, or-else, all-at, all-true, all-up, up-at}
-use Rattle.table.specs.Walks.{Stand, standing, start, headsTested, slotTested, stepTested, step, endTested, walkTested, waiting, leftTested}
+use Rattle.table.specs.Walks.{Stand, standing, start, headsTested, slotTested, stepTested, step, endTested, walkTested, waiting, leftTested, kindIn}
 use Rattle.table.proofs.Tests.{same}
+use Rattle.table.proofs.KindTests.{is-in, not-in}
 use Rattle.table.proofs.HeaderTests.{header-ranges}
 use Rattle.table.proofs.StepTests.{in-ticks}
 use Rattle.table.proofs.SlotTests.{tested-sound, sound-tested}
@@ -59,10 +60,10 @@ module _ (t : List ℕ) where
   whole k c w = walked t k ∙ and-both (chainSound k t) (waitsSound k t) c w
 
   -- the head of a chain is of its kind
-  head-kind : (k : Chain) → walk k t N (steps k) (start k t) ≡ true → 1 ≤ word t (headWord k) → field t 0 (word t (headWord k)) ≡ waitingKind k
+  head-kind : (k : Chain) → walk k t N (steps k) (start k t) ≡ true → 1 ≤ word t (headWord k) → field t 0 (word t (headWord k)) ≡ kindIn k
   head-kind k w h =
       let i = word t (headWord k) in
-      let all : All (λ j. (1 ≤ j) × (field t 0 j ≡ waitingKind k)) (i ∷ along (field t 6) 0 (field t 6 i)) =
+      let all : All (λ j. (1 ≤ j) × (field t 0 j ≡ kindIn k)) (i ∷ along (field t 6) 0 (field t 6 i)) =
       rw (along-first (field t 6) 0 i h) at (kinds t k (steps k) 1 (start k t) w) in
       all .0 .1
 
@@ -180,7 +181,7 @@ module _ (t : List ℕ) (n : ℕ) (x y : Stand) where
       && ((r && walkTested ByTicks t n (waiting ByTicks t (suc i) m) (step ByTicks t x)) && walkTested ByDate t n (waiting ByDate t (suc i) m) y))
   unfolding walkTested
   tick i m r h f g =
-      at-kind i m true false h (eq-eqb (field t 0 i) 4 f) (ne-eqb (field t 0 i) 5 (λ z. omega arith))
+      at-kind i m true false h (is-in ByTicks (field t 0 i) f) (not-in ByDate (field t 0 i) (λ z. omega arith))
       ∙ ap (λ (b : Bool). allUp (slotTested t) (suc i) m
       && ((b && walkTested ByTicks t n (waiting ByTicks t (suc i) m) (step ByTicks t x)) && walkTested ByDate t n (waiting ByDate t (suc i) m) y)) g
 
@@ -190,7 +191,7 @@ module _ (t : List ℕ) (n : ℕ) (x y : Stand) where
       && (walkTested ByTicks t n (waiting ByTicks t (suc i) m) x && (r && walkTested ByDate t n (waiting ByDate t (suc i) m) (step ByDate t y))))
   unfolding walkTested
   date i m r h f g =
-      at-kind i m false true h (ne-eqb (field t 0 i) 4 (λ z. omega arith)) (eq-eqb (field t 0 i) 5 f)
+      at-kind i m false true h (not-in ByTicks (field t 0 i) (λ z. omega arith)) (is-in ByDate (field t 0 i) f)
       ∙ ap (λ (b : Bool). allUp (slotTested t) (suc i) m
       && (walkTested ByTicks t n (waiting ByTicks t (suc i) m) x && (b && walkTested ByDate t n (waiting ByDate t (suc i) m) (step ByDate t y)))) g
 
@@ -257,7 +258,7 @@ module _ {t : List ℕ} {n i : ℕ} {x y : Stand} (p : Passing t n i x y) where
 
     pub pass-other : slotTested t i ≡ true → (field t 0 i ≡ 4 → ⊥) → (field t 0 i ≡ 5 → ⊥) → Passing t n (i + 1) x y
     unfolding leftTested
-    pass-other h f g = on x y (p .ticks) (here ∙ at-kind t n x y i more false false h (ne-eqb (field t 0 i) 4 f) (ne-eqb (field t 0 i) 5 g))
+    pass-other h f g = on x y (p .ticks) (here ∙ at-kind t n x y i more false false h (not-in ByTicks (field t 0 i) f) (not-in ByDate (field t 0 i) g))
 
     pub tick-fails : slotTested t i ≡ true → field t 0 i ≡ 4 → stepTested ByTicks t n x ≡ false → false ≡ sound t
     tick-fails h f g = sym (here ∙ tick t n x y i more false h f g ∙ and-false (allUp (slotTested t) (suc i) more))

@@ -11,23 +11,29 @@ use borrow.Author.Tests.{eqb-true, ne-eqb, le-ltb, lt-ltb, lt-leb, leb-true, leb
 use Rattle.model.proofs.ListLaws.{cases, both, or-right, all-at, all-true}
 use Rattle.model.specs.declared.Chain.{Chain}
 use Rattle.model.specs.declared.Chain.the-variants.{ByTicks, ByDate}
-use Rattle.model.specs.Kinds.{idleKind, waitsIn, lastByTicks}
+use Rattle.model.specs.Kinds.{waits, waitsIn, lastByTicks}
 use Rattle.model.specs.Words.{field}
 use Rattle.model.specs.Sound.{slotSound, unlinked, unstarted}
 use Rattle.table.specs.Walks.{slotTested, slotTestedAs}
 use Rattle.table.proofs.Tests.{fails}
+use Rattle.table.proofs.KindTests.{kind-is, timed-is, linked-is}
 
 -- Interval is 1 or more after a start by ticks, zero after one by date.
 abbrev pub intervalSound : Chain → ℕ → Bool
 intervalSound ByTicks interval = ltb 0 interval
 intervalSound ByDate interval = eqb interval 0
 
+-- the kind of a slot that is idle after it waited in chain k
+abbrev pub idleIn : Chain → ℕ
+idleIn ByTicks = 2
+idleIn ByDate = 3
+
 module _ (t : List ℕ) (i : ℕ) where
   abbrev slotTests : ℕ → List Bool
   slotTests kind =
       leb kind 5 ∷ (not (eqb kind 0) || eqb (field t 1 i) 0) ∷ (eqb kind 0 || ltb 0 (field t 1 i)) ∷ (ltb 1 kind || unstarted t i)
       ∷ (ltb kind 2 || ltb 0 (field t 4 i)) ∷ (waitsIn ByTicks kind || cond (lastByTicks kind) (ltb 0 (field t 2 i)) (eqb (field t 2 i) 0))
-      ∷ (ltb 3 kind || unlinked t i) ∷ []
+      ∷ (waits kind || unlinked t i) ∷ []
 
   slot-fails : (k : ℕ) → getD (slotTests (field t 0 i)) k true ≡ false → false ≡ slotTested t i
   unfolding slotTested
@@ -45,7 +51,7 @@ module _ (t : List ℕ) (i : ℕ) where
   pub links-fail : (field t 0 i ≡ 4 → ⊥) → (field t 0 i ≡ 5 → ⊥) → unlinked t i ≡ false → false ≡ slotTested t i
   links-fail a b e =
       cases (leb (field t 0 i) 5)
-      (λ h. slot-fails 6 (rw (le-ltb 3 (field t 0 i) (few (field t 0 i) (leb-true (field t 0 i) 5 h) a b)) e))
+      (λ h. slot-fails 6 (rw (linked-is (field t 0 i) (leb-true (field t 0 i) 5 h), le-ltb 3 (field t 0 i) (few (field t 0 i) (leb-true (field t 0 i) 5 h) a b)) e))
       (λ h. kind-fails (leb-false (field t 0 i) 5 h))
     where
       few : (k : ℕ) → k ≤ 5 → (k ≡ 4 → ⊥) → (k ≡ 5 → ⊥) → k ≤ 3
@@ -90,13 +96,13 @@ module _ (t : List ℕ) (i : ℕ) where
   waiting-date e n r =
       sym (as-kind 5 e ∙ rest (ltb 0 (field t 1 i)) (ltb 0 (field t 4 i)) (eqb (field t 2 i) 0) (lt-ltb 0 (field t 1 i) n) (lt-ltb 0 (field t 4 i) r))
 
-  pub idle-interval : (k : Chain) → field t 0 i ≡ idleKind k → 0 < field t 1 i → 0 < field t 4 i → unlinked t i ≡ true
+  pub idle-interval : (k : Chain) → field t 0 i ≡ idleIn k → 0 < field t 1 i → 0 < field t 4 i → unlinked t i ≡ true
       → intervalSound k (field t 2 i) ≡ slotTested t i
   idle-interval k e n r u =
       sym (at k e ∙ ap (λ (x : Bool). ltb 0 (field t 1 i) && (ltb 0 (field t 4 i) && (intervalSound k (field t 2 i) && (x && true)))) u
       ∙ rest (ltb 0 (field t 1 i)) (ltb 0 (field t 4 i)) (intervalSound k (field t 2 i)) (lt-ltb 0 (field t 1 i) n) (lt-ltb 0 (field t 4 i) r))
     where
-      at : (k : Chain) → field t 0 i ≡ idleKind k
+      at : (k : Chain) → field t 0 i ≡ idleIn k
           → slotTested t i ≡ (ltb 0 (field t 1 i) && (ltb 0 (field t 4 i) && (intervalSound k (field t 2 i) && (unlinked t i && true))))
       at ByTicks e = as-kind 2 e
       at ByDate e = as-kind 3 e
@@ -116,17 +122,17 @@ module _ (t : List ℕ) (i : ℕ) where
       let linkless = eqb (field t 3 i) 0 ∷ eqb (field t 6 i) 0 ∷ eqb (field t 7 i) 0 ∷ [] in
       record {
         kind = leb-true k 5 (at 0);
-        noInterval = λ a b. eqb-true (field t 2 i) 0 (rw (ne-eqb k 2 a, ne-eqb k 4 b) at (at 5));
+        noInterval = λ a b. eqb-true (field t 2 i) 0 (rw (kind-is ByTicks k, timed-is k, ne-eqb k 2 a, ne-eqb k 4 b) at (at 5));
         alone =
             λ h.
-            let u : unlinked t i ≡ true = rw (le-ltb 3 k h) at (at 6) in
+            let u : unlinked t i ≡ true = rw (linked-is k (omega arith), le-ltb 3 k h) at (at 6) in
             (eqb-true (field t 3 i) 0 (all-at linkless u 0), eqb-true (field t 7 i) 0 (all-at linkless u 2));
       }
 
   abbrev soundTests : ℕ → List Bool
   soundTests kind =
       leb kind 5 ∷ (not (eqb kind 0) || eqb (field t 1 i) 0) ∷ (eqb kind 0 || ltb 0 (field t 1 i)) ∷ (ltb 1 kind || unstarted t i)
-      ∷ (ltb kind 2 || ltb 0 (field t 4 i)) ∷ cond (lastByTicks kind) (ltb 0 (field t 2 i)) (eqb (field t 2 i) 0) ∷ (ltb 3 kind || unlinked t i) ∷ []
+      ∷ (ltb kind 2 || ltb 0 (field t 4 i)) ∷ cond (lastByTicks kind) (ltb 0 (field t 2 i)) (eqb (field t 2 i) 0) ∷ (waits kind || unlinked t i) ∷ []
 
   -- what is not tested is the interval of kind 4
   pub tested-sound : slotTested t i ≡ true → (field t 0 i ≡ 4 → 1 ≤ field t 2 i) → slotSound t i ≡ true
@@ -138,8 +144,8 @@ module _ (t : List ℕ) (i : ℕ) where
       cases (eqb k 4)
       (λ q.
       let is = eqb-true k 4 q in
-      rw (ne-eqb k 2 (λ z. omega arith), q) (lt-ltb 0 (field t 2 i) (h is)))
-      (λ q. rw q (rw q at (at 5))) in
+      rw (timed-is k, ne-eqb k 2 (λ z. omega arith), q) (lt-ltb 0 (field t 2 i) (h is)))
+      (λ q. rw (kind-is ByTicks k, q) at (at 5)) in
       all-true (soundTests k) (at 0, (at 1, (at 2, (at 3, (at 4, (interval, (at 6, tt)))))))
 
   pub sound-tested : slotSound t i ≡ true → slotTested t i ≡ true

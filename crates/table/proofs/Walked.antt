@@ -13,13 +13,14 @@ use Rattle.calendar.specs.Calendar.{lastSecond}
 use Rattle.model.specs.Lists.{every, allUp, All}
 use Rattle.model.specs.declared.Chain.{Chain}
 use Rattle.model.specs.declared.Chain.the-variants.{ByTicks, ByDate}
-use Rattle.model.specs.Kinds.{waitingKind, waitsIn}
+use Rattle.model.specs.Kinds.{waitsIn}
 use Rattle.model.specs.State.{Link}
 use Rattle.model.specs.Words.{word, field, headWord, along, total, linksFrom}
 use Rattle.model.specs.Sound.{previousSound, chainSound, firstSound, ticksSound, rising, datesSound}
 use Rattle.model.proofs.ListLaws.{cases, both, and-both, all-at, all-true, all-up, up-at, every-true, every-all, all-map, all-zip}
-use Rattle.table.specs.Walks.{Stand, standing, origin, start, linkTested, waitTested, step, waiting}
+use Rattle.table.specs.Walks.{Stand, standing, origin, start, linkTested, waitTested, step, waiting, kindIn}
 use Rattle.table.proofs.Tests.{same, exchange}
+use Rattle.table.proofs.KindTests.{kind-is}
 use Rattle.table.proofs.StepTests.{InLink, in-link, link-in}
 use Rattle.table.proofs.Sums.{times, sumUp, sum-same, sum-few, sum-times, sum-tight, none-times}
 use Rattle.table.proofs.Steps.{Ends, along-first, along-more, ends-length, ends-of, once, along-low, links-first, links-more}
@@ -41,7 +42,7 @@ waitSound ByTicks t i b = waitTested ByTicks t i b
 waitSound ByDate t i b = waitTested ByDate t i b && leb (field t 3 i) lastSecond
 
 abbrev pub stepSound : Chain → List ℕ → ℕ → Stand → Bool
-stepSound k t n x = linkSound t n (waitingKind k) (x .slot) (x .before) && waitSound k t (x .slot) (x .reached)
+stepSound k t n x = linkSound t n (kindIn k) (x .slot) (x .before) && waitSound k t (x .slot) (x .reached)
 
 -- c steps, and then the end of the chain
 unfoldable pub walk : Chain → List ℕ → ℕ → ℕ → Stand → Bool
@@ -84,7 +85,7 @@ module _ (k : Chain) (t : List ℕ) where
 
   abbrev linked : ℕ → ℕ → ℕ → ℕ → Bool
   linked n zero i p = eqb i 0
-  linked n (suc c) i p = linkSound t n (waitingKind k) i p && linked n c (field t 6 i) i
+  linked n (suc c) i p = linkSound t n (kindIn k) i p && linked n c (field t 6 i) i
 
   abbrev waited : ℕ → ℕ → ℕ → Bool
   waited zero i b = true
@@ -95,14 +96,14 @@ module _ (k : Chain) (t : List ℕ) where
   walk-split n zero i p b = sym (and-true (eqb i 0))
   walk-split n (suc c) i p b =
       let b′ = total k b (field t 3 i) in
-      ap (λ (x : Bool). (linkSound t n (waitingKind k) i p && waitSound k t i b) && x) (walk-split n c (field t 6 i) i b′)
-      ∙ exchange (linkSound t n (waitingKind k) i p) (waitSound k t i b) (linked n c (field t 6 i) i) (waited c (field t 6 i) b′)
+      ap (λ (x : Bool). (linkSound t n (kindIn k) i p && waitSound k t i b) && x) (walk-split n c (field t 6 i) i b′)
+      ∙ exchange (linkSound t n (kindIn k) i p) (waitSound k t i b) (linked n c (field t 6 i) i) (waited c (field t 6 i) b′)
 
   -- ---- the links
 
   -- a slot of n, of the chain's kind
   abbrev OfKind : ℕ → ℕ → Type 0
-  OfKind n x = (x ≤ n) × (field t 0 x ≡ waitingKind k)
+  OfKind n x = (x ≤ n) × (field t 0 x ≡ kindIn k)
 
   record Linked (n c i p : ℕ) : Type 0 where
     ends : Ends (field t 6) c i
@@ -112,8 +113,8 @@ module _ (k : Chain) (t : List ℕ) where
   from-linked : (n c i p : ℕ) → linked n c i p ≡ true → Linked n c i p
   from-linked n zero i p e = record { ends = eqb-true i 0 e; kind = tt; previous = refl }
   from-linked n (suc c) i p e =
-      let a = both (linkSound t n (waitingKind k) i p) (linked n c (field t 6 i) i) e in
-      let h = in-chain t n (waitingKind k) i p (a .0) in
+      let a = both (linkSound t n (kindIn k) i p) (linked n c (field t 6 i) i) e in
+      let h = in-chain t n (kindIn k) i p (a .0) in
       let r = from-linked n c (field t 6 i) i (a .1) in
       let is : along (field t 6) (suc c) i ≡ i ∷ along (field t 6) c (field t 6 i) = along-first (field t 6) c i (h .link .low) in
       record {
@@ -131,8 +132,8 @@ module _ (k : Chain) (t : List ℕ) where
       let kinds : All (OfKind n) (i ∷ rest) = rw is at (h .kind) in
       let previous : previousSound t p (i ∷ rest) ≡ true = rw is at (h .previous) in
       let q = both (eqb (field t 7 i) p) (previousSound t i rest) previous in
-      and-both (linkSound t n (waitingKind k) i p) (linked n c (field t 6 i) i)
-      (chain-in t n (waitingKind k) i p
+      and-both (linkSound t n (kindIn k) i p) (linked n c (field t 6 i) i)
+      (chain-in t n (kindIn k) i p
       (record { link = record { low = h .ends .0; high = kinds .0 .0; previous = eqb-true (field t 7 i) p (q .0) }; kind = kinds .0 .1 }))
       (to-linked n c (field t 6 i) i (record { ends = h .ends .1; kind = kinds .1; previous = q .1 }))
 
@@ -170,7 +171,7 @@ module _ (k : Chain) (t : List ℕ) where
       (λ q. rw q (once (field t 6) C head j (p .ends)))
       (λ q. rw q (omega (
         arith,
-        none-times (OfKind N) l j (p .kind) (λ z. eqb-false (field t 0 j) (waitingKind k) q (z .1)),
+        none-times (OfKind N) l j (p .kind) (λ z. eqb-false (field t 0 j) (kindIn k) (sym (kind-is k (field t 0 j)) ∙ q) (z .1)),
       ))))
       (sum-times l 1 N range ∙ len ∙ waiting-sum 1 N) in
       all-true (chainTests (along (field t 6) N head)) (
@@ -201,26 +202,26 @@ module _ (k : Chain) (t : List ℕ) where
       let kind : All (OfKind N) l = sort l range (λ x p q r. of-kind x (omega (arith, met x p q, r))) in
       to-linked N C head 0 (record { ends = ends′; kind = rw is at kind; previous = rw is at (at 3) })
     where
-      of-kind : (x : ℕ) → 0 < waits x → field t 0 x ≡ waitingKind k
+      of-kind : (x : ℕ) → 0 < waits x → field t 0 x ≡ kindIn k
       of-kind x p =
           cases (waitsIn k (field t 0 x))
-          (λ e. eqb-true (field t 0 x) (waitingKind k) e)
+          (λ e. eqb-true (field t 0 x) (kindIn k) (sym (kind-is k (field t 0 x)) ∙ e))
           (λ e. absurd (let z : 0 < cond false 1 0 = rw e at p in omega arith))
 
       sort : (l : List ℕ) → All (λ x. (1 ≤ x) × (x < 1 + N)) l
-          → ((x : ℕ) → 1 ≤ x → x < 1 + N → 0 < times x l → field t 0 x ≡ waitingKind k) → All (OfKind N) l
+          → ((x : ℕ) → 1 ≤ x → x < 1 + N → 0 < times x l → field t 0 x ≡ kindIn k) → All (OfKind N) l
       sort [] r f = tt
       sort (y ∷ ys) r f = (
         (omega (arith, r .0 .1), f y (r .0 .0) (r .0 .1) (rw (eq-eqb y y refl) (omega arith))),
         sort ys (r .1) (λ x p q s. f x p q (cases (eqb y x) (λ e. rw e (omega arith)) (λ e. rw e s))),
       )
 
-  pub met-once : chainSound k t ≡ true → (j : ℕ) → 1 ≤ j → j ≤ N → field t 0 j ≡ waitingKind k → times j (along (field t 6) N head) ≡ 1
+  pub met-once : chainSound k t ≡ true → (j : ℕ) → 1 ≤ j → j ≤ N → field t 0 j ≡ kindIn k → times j (along (field t 6) N head) ≡ 1
   unfolding chainSound
   met-once e j a b q =
       let l = along (field t 6) N head in
       eqb-true (times j l) (waits j) (up-at (λ i. eqb (times i l) (waits i)) 1 N (all-at (chainTests l) e 2) j a (omega arith))
-      ∙ rw (eq-eqb (field t 0 j) (waitingKind k) q)
+      ∙ rw (kind-is k (field t 0 j), eq-eqb (field t 0 j) (kindIn k) q)
 
 -- ---- the waits
 

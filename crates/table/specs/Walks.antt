@@ -8,7 +8,7 @@ use Rattle.calendar.specs.Calendar.{allOf, lastSecond}
 use Rattle.model.specs.Lists.{allUp}
 use Rattle.model.specs.declared.Chain.{Chain}
 use Rattle.model.specs.declared.Chain.the-variants.{ByTicks, ByDate}
-use Rattle.model.specs.Kinds.{waitsIn, lastByTicks}
+use Rattle.model.specs.Kinds.{waits, waitsIn, lastByTicks}
 use Rattle.model.specs.Words.{word, field, headWord, total}
 use Rattle.model.specs.Sound.{unlinked, unstarted}
 
@@ -29,7 +29,7 @@ slotTestedAs t i kind = allOf (
     ∷ (ltb 1 kind || unstarted t i)
     ∷ (ltb kind 2 || ltb 0 (field t 4 i))
     ∷ (waitsIn ByTicks kind || cond (lastByTicks kind) (ltb 0 (field t 2 i)) (eqb (field t 2 i) 0))
-    ∷ (ltb 3 kind || unlinked t i) ∷ [])
+    ∷ (waits kind || unlinked t i) ∷ [])
 
 unfoldable pub slotTested : List ℕ → ℕ → Bool
 slotTested t i = slotTestedAs t i (field t 0 i)
@@ -76,6 +76,11 @@ endTested ByDate x = eqb (x .slot) 0 && (eqb (x .before) 0 || leb (x .reached) l
 unfoldable pub walkTested : Chain → List ℕ → ℕ → ℕ → Stand → Bool
 walkTested k t n zero x = endTested k x
 walkTested k t n (suc c) x = stepTested k t n x && walkTested k t n c (step k t x)
+
+-- the kind of a slot that waits in chain k
+abbrev pub kindIn : Chain → ℕ
+kindIn ByTicks = 4
+kindIn ByDate = 5
 
 -- how many of m slots from i on wait in chain k
 unfoldable pub waiting : Chain → List ℕ → ℕ → ℕ → ℕ

@@ -16,6 +16,7 @@ use Rattle.calendar.specs.Calendar.{valid, secondsOf, dateOf, instantOf, dateAn
 use Rattle.calendar.proofs.Theorems.{second-answer, not-valid-answer, on-answer, past-answer}
 use Rattle.model.specs.declared.Chain.{Chain}
 use Rattle.model.specs.declared.Chain.the-variants.{ByDate}
+use Rattle.model.specs.declared.Mode.the-variants.{When}
 use Rattle.model.specs.Lists.{All}
 use Rattle.model.specs.Calls.{tick, setClock}
 use Rattle.model.specs.Directives.{notAhead, started, clockStep, numbers}
@@ -56,8 +57,8 @@ module _ (t : List ℕ) where
       ap₂ (λ (b c : Bool). not (b && c)) (a .is-valid) (lt-ltb (word t 3) (secondsOf w) (omega (arith, a .is)))
 
   pub dated-is : (w : WallTime) (r u : ℕ) {s i k : ℕ} {d : Instant} {v : List ℕ} → d ≡ instantOf w → d ≡ Second s → i ≡ k
-      → v ≡ over (started ByDate (read t) i s 0 r u) t → v ≡ over (started ByDate (read t) k (secondsOf w) 0 r u) t
-  dated-is w r u {s} e n is h = h ∙ ap₂ (λ (a b : ℕ). over (started ByDate (read t) a b 0 r u) t) is (second-answer w s e n .is)
+      → v ≡ over (started When (read t) i s r u) t → v ≡ over (started When (read t) k (secondsOf w) r u) t
+  dated-is w r u {s} e n is h = h ∙ ap₂ (λ (a b : ℕ). over (started When (read t) a b r u) t) is (second-answer w s e n .is)
 
 -- ---- set clock
 

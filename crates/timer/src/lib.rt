@@ -23,6 +23,7 @@ use links::stop;
 use links::store;
 use links::ticks_to;
 use model::Chain;
+use model::Mode;
 use model::Status;
 use slots::ID_BASE;
 use slots::clear;
@@ -176,7 +177,7 @@ pub fn fire_after(table: &mut [u32], id: u32, ticks: u32, routine: u32, user_dat
     if i == 0 {
         return Answer::Refused(Status::InvalidId);
     }
-    start(table, Chain::ByTicks, i, ticks, ticks, routine, user_data);
+    start(table, Mode::After, i, ticks, routine, user_data);
     Answer::Done(0)
 }
 
@@ -203,7 +204,7 @@ pub fn fire_when(table: &mut [u32], id: u32, when: WallTime, routine: u32, user_
     if i == 0 {
         return Answer::Refused(Status::InvalidId);
     }
-    start(table, Chain::ByDate, i, date, 0, routine, user_data);
+    start(table, Mode::When, i, date, routine, user_data);
     Answer::Done(0)
 }
 
@@ -224,7 +225,7 @@ pub fn reset(table: &mut [u32], id: u32) -> Answer
     let ticks = get(table, i, INTERVAL);
     let routine = get(table, i, ROUTINE);
     let user_data = get(table, i, DATA);
-    start(table, Chain::ByTicks, i, ticks, ticks, routine, user_data);
+    start(table, Mode::After, i, ticks, routine, user_data);
     Answer::Done(0)
 }
 

@@ -1,7 +1,10 @@
 -- `links::stop` meets its contract: a waiting timer is cut out of its chain, and any other is stopped already. Assumes nothing.
-use mathlib.Core.Path.{sym, _∙_}
+use mathlib.Core.Path.{sym, ap, _∙_}
+use Prim.Native.Nat.{ℕ}
 use native.Mathlib.Omega.{arith}
 use Rattle.model.specs.declared.Chain.the-variants.{ByTicks, ByDate}
+use Rattle.model.specs.Kinds.{kindAt}
+use Rattle.table.proofs.KindTests.{is-in}
 use Rattle.links.proofs.Cutting.{waits-none, in-words, cuttable, stop-waiting, stop-idle}
 use borrow.Author.Needs.{needs}
 use Rattle.links.proofs.stop.Statement.{statement}
@@ -15,7 +18,7 @@ cut-requires : tie.Need-cut-requires
 cut-requires c κs =
     let asked = c .before .before in
     let start = asked .before .before .before in
-    cuttable (start .args .t .now) (start .args .i) (start .pre) ByTicks (sym (asked .get .ensures) ∙ c .before .if1 .taken)
+    cuttable (start .args .t .now) (start .args .i) (start .pre) ByTicks (is-in ByTicks _ (sym (asked .get .ensures) ∙ c .before .if1 .taken))
     (λ m. asked .before .before .slice-known .given m .fits)
 
 put-requires : tie.Need-put-requires
@@ -32,14 +35,15 @@ returns c =
     let done = c .before .before .before .before .before .before in
     let asked = done .before .before .before in
     let start = asked .before .before .before in
-    stop-waiting (start .args .t .now) (start .args .i) (start .pre) ByTicks (sym (asked .get .ensures) ∙ done .before .before .if1 .taken)
+    let four = sym (asked .get .ensures) ∙ done .before .before .if1 .taken in
+    stop-waiting (start .args .t .now) (start .args .i) (start .pre) ByTicks (is-in ByTicks _ four) 2 (sym (ap (λ (n : ℕ). kindAt n .stopped) four))
     (done .cut .ensures) (c .before .before .put .ensures)
 
 cut-requires-2 : tie.Need-cut-requires-2
 cut-requires-2 c κs =
     let asked = c .before .before .before in
     let start = asked .before .before .before in
-    cuttable (start .args .t .now) (start .args .i) (start .pre) ByDate (sym (asked .get .ensures) ∙ c .before .if2 .taken)
+    cuttable (start .args .t .now) (start .args .i) (start .pre) ByDate (is-in ByDate _ (sym (asked .get .ensures) ∙ c .before .if2 .taken))
     (λ m. asked .before .before .slice-known .given m .fits)
 
 put-requires-2 : tie.Need-put-requires-2
@@ -56,7 +60,8 @@ returns-2 c =
     let done = c .before .before .before .before .before .before in
     let asked = done .before .before .before .before in
     let start = asked .before .before .before in
-    stop-waiting (start .args .t .now) (start .args .i) (start .pre) ByDate (sym (asked .get .ensures) ∙ done .before .before .if2 .taken)
+    let five = sym (asked .get .ensures) ∙ done .before .before .if2 .taken in
+    stop-waiting (start .args .t .now) (start .args .i) (start .pre) ByDate (is-in ByDate _ five) 3 (sym (ap (λ (n : ℕ). kindAt n .stopped) five))
     (done .cut2 .ensures) (c .before .before .put2 .ensures)
 
 same-length-3 : tie.Need-same-length-3

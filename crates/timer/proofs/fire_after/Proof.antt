@@ -5,7 +5,7 @@ use mathlib.Core.List.{List, [], _∷_}
 use mathlib.Core.Path.{refl}
 use Prim.Native.Nat.{ℕ}
 use native.Mathlib.Omega.{arith}
-use Rattle.model.specs.declared.Chain.the-variants.{ByTicks}
+use Rattle.model.specs.declared.Mode.the-variants.{After}
 use Rattle.model.specs.declared.Status.the-variants.{InvalidId, InvalidAddress, InvalidNumber, NotSound}
 use Rattle.model.specs.Directives.{started}
 use Rattle.model.specs.Words.{read}
@@ -66,7 +66,7 @@ returns-4 c =
     (unknown _ _ (c .before .named .ensures) (c .if4 .taken)) refl
 
 start-requires : tie.Need-start-requires
-start-requires c κs = (at (c .before) .place, omega arith)
+start-requires c κs = at (c .before) .place
 
 same-length-5 : tie.Need-same-length-5
 same-length-5 c = search needs
@@ -78,7 +78,7 @@ returns-5 c =
     let b = found d in
     let a = b .before .before .before .before .args in
     done _ _ (0 ∷ []) _ [] (sure b .rule, (ne-eqb _ 0 (used .before .if2 .left), (ne-eqb _ 0 (used .if3 .left), (at d .rule, tt)))) refl
-    (at-index (λ k. started ByTicks (read (t b)) k (a .ticks) (a .ticks) (a .routine) (a .user-data)) (at d) (c .before .before .start .ensures)) refl
+    (at-index (λ k. started After (read (t b)) k (a .ticks) (a .routine) (a .user-data)) (at d) (c .before .before .start .ensures)) refl
 
 pub fire-after-spec : {M : Type 1} → statement M
 fire-after-spec =

@@ -132,7 +132,7 @@ returns-6 c =
     (unknown _ _ (c .before .named .ensures) (c .if5 .taken)) refl
 
 start-requires : tie.Need-start-requires
-start-requires c κs = (at (c .before) .place, tt)
+start-requires c κs = at (c .before) .place
 
 same-length-7 : tie.Need-same-length-7
 same-length-7 c = search needs

@@ -1,5 +1,6 @@
 -- `timer::reset` meets its contract: the slot starts again with the words that it has stored. Assumes nothing.
 use borrow.Author.Needs.{needs}
+use borrow.Author.Tests.{not-false}
 use mathlib.Core.List.{List, [], _∷_}
 use mathlib.Core.Path.{refl}
 use Prim.Native.Nat.{ℕ}
@@ -72,7 +73,7 @@ get-requires-4 : tie.Need-get-requires-4
 get-requires-4 c κs = (omega arith, at (c .before .before .before .before .before .before .before .before .before) .inside)
 
 start-requires : tie.Need-start-requires
-start-requires c κs = (at (c .before .before .before .before .before .before .before .before .before .before .before) .place, omega arith)
+start-requires c κs = at (c .before .before .before .before .before .before .before .before .before .before .before) .place
 
 same-length-4 : tie.Need-same-length-4
 same-length-4 c = search needs
@@ -86,7 +87,7 @@ returns-4 c =
     let d = again .before .before .before .before in
     let by-ticks = not-same (timed (at d) (again .before .before .get .ensures) (again .before .was-by-ticks .ensures)) (again .if3 .left) in
     done _ _ (0 ∷ []) _ [] (sure (found d) .rule, (at d .rule, (by-ticks, tt))) refl
-    (reset-is (at d) (c .before .before .start .ensures) (ticks .get2 .ensures) (routine .get3 .ensures) (user .get4 .ensures)) refl
+    (reset-is (at d) (not-false _ by-ticks) (c .before .before .start .ensures) (ticks .get2 .ensures) (routine .get3 .ensures) (user .get4 .ensures)) refl
 
 pub reset-spec : {M : Type 1} → statement M
 reset-spec =

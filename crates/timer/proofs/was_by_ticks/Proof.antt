@@ -1,6 +1,7 @@
 -- `timer::was_by_ticks` meets its contract, a test at a time. Assumes nothing.
 use borrow.Author.Tests.{eq-eqb, ne-eqb}
-use mathlib.Core.Path.{sym, ap}
+use mathlib.Core.Path.{sym, ap, _∙_}
+use Rattle.table.proofs.KindTests.{timed-is}
 use native.Mathlib.Omega.{arith}
 use mathlib.Core.Bool.{Bool, _||_}
 use lib.Dec.{eqb}
@@ -8,10 +9,10 @@ use Rattle.timer.proofs.was_by_ticks.Statement.{statement}
 use Rattle.timer.proofs.was_by_ticks.Tie as tie
 
 returns : tie.Need-returns
-returns c = let k = c .before .args .kind in sym (ap (λ (b : Bool). b || eqb k 4) (eq-eqb k 2 (omega (arith, c .if1 .taken))))
+returns c = let k = c .before .args .kind in sym (timed-is k ∙ ap (λ (b : Bool). b || eqb k 4) (eq-eqb k 2 (omega (arith, c .if1 .taken))))
 
 returns-2 : tie.Need-returns-2
-returns-2 c = let k = c .before .args .kind in sym (ap (λ (b : Bool). b || eqb k 4) (ne-eqb k 2 (c .if1 .left)))
+returns-2 c = let k = c .before .args .kind in sym (timed-is k ∙ ap (λ (b : Bool). b || eqb k 4) (ne-eqb k 2 (c .if1 .left)))
 
 pub was-by-ticks-spec : {M : Type 1} → statement M
 was-by-ticks-spec = tie.close (tie.spec returns returns-2)
