@@ -1,6 +1,6 @@
 -- Every accepted call of the twelve keeps agreement with the events, and lists what is due in it. Assumes nothing.
 use mathlib.Core.Path.{_≡_, refl, sym, ap, ap₂, _∙_, subst}
-use Prim.Native.Nat.{ℕ}
+use Prim.Native.Nat.{ℕ, _<_}
 use native.Mathlib.Omega.{arith}
 use mathlib.Core.Bool.{Bool, true, false}
 use mathlib.Core.Option.{Option, some}
@@ -16,7 +16,7 @@ use Rattle.model.specs.Calls.{Call, layOut, create, ident, cancel, delet
 use Rattle.model.specs.Kinds.{Chain, ByTicks, ByDate, After, When, kindAt, chainFor, lastMode}
 use Rattle.model.specs.State.{State, free, slotAt, indexOf, Fired, listed}
 use Rattle.model.specs.Directives.{refusals, lowestFree, unused, idled, effect}
-use Rattle.model.specs.History.{Start, startOf, Event, laidOutFor, changes, oneTick, clockSetTo, nothing, lastStart, eventOf, isTick, moves, Placed, starts, entry}
+use Rattle.model.specs.History.{Start, startOf, Event, laidOutFor, changes, deletes, oneTick, clockSetTo, nothing, lastStart, eventOf, isTick, moves, Placed, starts, entry}
 use Rattle.model.proofs.ListLaws.{clash, all, keep-none}
 use Rattle.model.proofs.WellFormed.{WellFormed}
 use Rattle.model.proofs.KindLaws.{timed-mode, timed-last}
@@ -25,15 +25,30 @@ use Rattle.model.proofs.Searches.{found}
 use Rattle.model.proofs.Refused.{accepted-facts}
 use Rattle.model.proofs.HistoryLaws.{Sized, dueNow, chainFrom, firingIn, chain-fires}
 use Rattle.model.proofs.ChainLaws.{bringsDue, not-due}
-use Rattle.model.proofs.Simulation.{Remembers, Agrees, no-start, on-nothing, on-stored, on-lay-out, on-stop, on-start}
+use Rattle.model.proofs.Simulation.{Remembers, Agrees, no-start, on-nothing, on-stored, on-lay-out, on-stop, on-delete, on-start}
 use Rattle.model.proofs.ClockSimulation.{on-set-clock, set-clock-fires, on-tick, tick-fires}
 
-module _ (s : State) (h : List Event) (v : Agrees s h) (f : WellFormed s) (unsound : Bool) where
-  pub agrees-step : (c : Call) → firstOf (refusals unsound s c) ≡ 0 → Agrees (effect s c .state) (eventOf h c ∷ h)
-  agrees-step (layOut n t) e = on-lay-out s h v (s .room) n t
+module _ (s : State) (h : List Event) (v : Agrees s h) (f : WellFormed s) (words : List ℕ) where
+  -- what a timer that a reset starts again remembers is its last start
+  pub reset-last : (id : ℕ) → firstOf (refusals words s (reset id)) ≡ 0 → let x = slotAt (s .slots) (indexOf id) in
+      (chainFor (lastMode (x .kind)) ≡ ByTicks) × (0 < x .interval)
+      × (lastStart id h ≡ some (startOf id (lastMode (x .kind)) (x .interval) (x .routine) (x .userData)))
+  reset-last id e =
+      let p = accepted-facts words s (reset id) e in
+      let x = slotAt (s .slots) (indexOf id) in
+      let o = lastMode (x .kind) in
+      let by-ticks : chainFor o ≡ ByTicks = timed-mode (kindAt (x .kind) .last) (p .1) in
+      let m = v .memory (indexOf id) o (timed-last (kindAt (x .kind) .last) (p .1)) by-ticks in (
+        by-ticks,
+        m .0,
+        subst (λ (k : ℕ). lastStart k h ≡ some (startOf k o (x .interval) (x .routine) (x .userData))) (sym (p .0 .is)) (m .1),
+      )
+
+  pub agrees-step : (c : Call) → firstOf (refusals words s c) ≡ 0 → Agrees (effect s c .state) (eventOf h c ∷ h)
+  agrees-step (layOut n t) e = on-lay-out s h v n t
   agrees-step (create name) e =
       let i = lowestFree s in
-      let p = accepted-facts unsound s (create name) e in
+      let p = accepted-facts words s (create name) e in
       let low = found (λ x. eqb (x .kind) 0) (s .slots) (p .1) in
       let blank = f .shape i .blank (omega (arith, eqb-true (slotAt (s .slots) i .kind) 0 (low .passes))) in
       let kind = eqb-true (slotAt (s .slots) i .kind) 0 (low .passes) in
@@ -45,33 +60,29 @@ module _ (s : State) (h : List Event) (v : Agrees s h) (f : WellFormed s) (unsou
       }) refl
   agrees-step (ident name) e = on-nothing s h v
   agrees-step (cancel id) e =
-      let p = accepted-facts unsound s (cancel id) e in
+      let p = accepted-facts words s (cancel id) e in
       let x = slotAt (s .slots) (indexOf id) in
       on-stop s h v id (indexOf id) (p .is) (p .low) (p .high) (idled x) (subst (Remembers h (indexOf id)) (sym (memo-idled x)) (v .memory (indexOf id)))
   agrees-step (delete id) e =
-      let p = accepted-facts unsound s (delete id) e in on-stop s h v id (indexOf id) (p .is) (p .low) (p .high) free (no-start h (indexOf id) (memo free) refl)
+      let p = accepted-facts words s (delete id) e in on-delete s h v id (indexOf id) (p .is) (p .low) (p .high)
   agrees-step (fireAfter id n r u) e =
-      let p = accepted-facts unsound s (fireAfter id n r u) e in
+      let p = accepted-facts words s (fireAfter id n r u) e in
       let q = p .names-one in
       on-start s h v id (indexOf id) (q .is) (q .low) (q .high) After n r u (p .ticks)
   agrees-step (fireWhen id w r u) e =
-      let p = accepted-facts unsound s (fireWhen id w r u) e in
+      let p = accepted-facts words s (fireWhen id w r u) e in
       let q = p .names-one in
       on-start s h v id (indexOf id) (q .is) (q .low) (q .high) When (secondsOf w) r u tt
   agrees-step (reset id) e =
-      let p = accepted-facts unsound s (reset id) e in
+      let p = accepted-facts words s (reset id) e in
       let i = indexOf id in
       let x = slotAt (s .slots) i in
-      let o = lastMode (x .kind) in
-      let by-ticks : chainFor o ≡ ByTicks = timed-mode (kindAt (x .kind) .last) (p .1) in
-      let m = v .memory i o (timed-last (kindAt (x .kind) .last) (p .1)) by-ticks in
-      let last : lastStart id h ≡ some (startOf id o (x .interval) (x .routine) (x .userData)) =
-      subst (λ (k : ℕ). lastStart k h ≡ some (startOf k o (x .interval) (x .routine) (x .userData))) (sym (p .0 .is)) (m .1) in
-      subst (λ (q : Option Start). Agrees (effect s (reset id) .state) (changes id q ∷ h)) (sym last)
-      (on-start s h v id i (p .0 .is) (p .0 .low) (p .0 .high) o (x .interval) (x .routine) (x .userData) (rw by-ticks (m .0)))
+      let last = reset-last id e in
+      subst (λ (q : Option Start). Agrees (effect s (reset id) .state) (changes id q ∷ h)) (sym (last .2))
+      (on-start s h v id i (p .0 .is) (p .0 .low) (p .0 .high) (lastMode (x .kind)) (x .interval) (x .routine) (x .userData) (rw (last .0) (last .1)))
   agrees-step (ticksLeft id) e = on-nothing s h v
-  agrees-step (tick list) e = on-tick s h v f list
-  agrees-step (setClock w list) e = on-set-clock s h v f (secondsOf w) (seconds-in-range w (accepted-facts unsound s (setClock w list) e .1)) list
+  agrees-step (tick list) e = on-tick s h v f
+  agrees-step (setClock w list) e = on-set-clock s h v f (secondsOf w) (seconds-in-range w (accepted-facts words s (setClock w list) e .1))
   agrees-step getClock e = on-nothing s h v
 
 -- ---- what is listed
@@ -79,6 +90,7 @@ module _ (s : State) (h : List Event) (v : Agrees s h) (f : WellFormed s) (unsou
 no-tick : (e : Event) → moves e ≡ false → isTick e ≡ false
 no-tick (laidOutFor k) z = refl
 no-tick (changes i s) z = refl
+no-tick (deletes i) z = refl
 no-tick oneTick z = clash z
 no-tick (clockSetTo d) z = refl
 no-tick nothing z = refl
@@ -109,8 +121,8 @@ module _ (h : List Event) (sized : All Sized (starts h)) (e : Event) where
       z ∙ ap₂ (λ (a b : List Fired). a ++ b) (sym (chain-fires ByTicks h sized e)) (sym (chain-fires ByDate h sized e))
       ∙ sym (map-append entry (firingIn ByTicks h e) (firingIn ByDate h e))
 
-module _ (s : State) (h : List Event) (v : Agrees s h) (f : WellFormed s) (unsound : Bool) where
-  pub lists-due : (c : Call) → firstOf (refusals unsound s c) ≡ 0
+module _ (s : State) (h : List Event) (v : Agrees s h) (f : WellFormed s) (words : List ℕ) where
+  pub lists-due : (c : Call) → firstOf (refusals words s c) ≡ 0
       → map (listed (s .slots)) (effect s c .fired) ≡ map entry (firingIn ByTicks h (eventOf h c) ++ firingIn ByDate h (eventOf h c))
   lists-due (layOut n t) e = none-listed h (v .sized) (eventOf h (layOut n t)) refl
   lists-due (create name) e = none-listed h (v .sized) nothing refl
@@ -121,10 +133,10 @@ module _ (s : State) (h : List Event) (v : Agrees s h) (f : WellFormed s) (unsou
   lists-due (fireWhen id w r u) e = none-listed h (v .sized) (eventOf h (fireWhen id w r u)) refl
   lists-due (reset id) e = none-listed h (v .sized) (eventOf h (reset id)) refl
   lists-due (ticksLeft id) e = none-listed h (v .sized) nothing refl
-  lists-due (tick list) e = both-due h (v .sized) (eventOf h (tick list)) (map (listed (s .slots)) (effect s (tick list) .fired)) (tick-fires s h v f list)
+  lists-due (tick list) e = both-due h (v .sized) (eventOf h (tick list)) (map (listed (s .slots)) (effect s (tick list) .fired)) (tick-fires s h v f)
   lists-due (setClock w list) e =
       both-due h (v .sized) (eventOf h (setClock w list)) (map (listed (s .slots)) (effect s (setClock w list) .fired))
-      (set-clock-fires s h v f (secondsOf w) (seconds-in-range w (accepted-facts unsound s (setClock w list) e .1)) list)
+      (set-clock-fires s h v f (secondsOf w) (seconds-in-range w (accepted-facts words s (setClock w list) e .1)))
   lists-due getClock e = none-listed h (v .sized) nothing refl
 
 -- a tick and a set clock answer the number of those that fire

@@ -77,7 +77,7 @@ fired-shows ws sl l = shown-memo sl (firedAll ws sl) (memo-firedAll ws sl) l
 
 module _ (s : State) (h : List Event) (v : Agrees s h) (f : WellFormed s) where
   -- ---- set clock
-  module _ (d : ℕ) (in-range : d ≤ lastSecond) (list : List ℕ) where
+  module _ (d : ℕ) (in-range : d ≤ lastSecond) where
     set-per : perSecond (clockSetTo d ∷ h) ≡ s .clock .perSecond
     set-per = v .per
 
@@ -89,7 +89,7 @@ module _ (s : State) (h : List Event) (v : Agrees s h) (f : WellFormed s) where
     set-cut : All (λ w. past (w .wait) (clockSetTo d ∷ h) ≡ leb (w .wait) d) (s .dated)
     set-cut = all (λ w. cut-clock (clockAt (s .clock) d 0) (clockSetTo d ∷ h) (w .wait) set-per set-clock (f .per-low) (λ e. clash e)) (s .dated)
 
-    pub on-set-clock : Agrees (clockMoved s d list .state) (clockSetTo d ∷ h)
+    pub on-set-clock : Agrees (clockMoved s d .state) (clockSetTo d ∷ h)
     on-set-clock = record {
       chain = each;
       sized = sized-more h (clockSetTo d) (v .sized) tt;
@@ -101,13 +101,13 @@ module _ (s : State) (h : List Event) (v : Agrees s h) (f : WellFormed s) where
         ws : List Link
         ws = keep (λ w. leb (w .wait) d) (s .dated)
 
-        each : (k : Chain) → map (shown (firedAll ws (s .slots))) (chainOf k (clockMoved s d list .state)) ≡ chainFrom k (clockSetTo d ∷ h)
+        each : (k : Chain) → map (shown (firedAll ws (s .slots))) (chainOf k (clockMoved s d .state)) ≡ chainFrom k (clockSetTo d ∷ h)
         each ByTicks =
             fired-shows ws (s .slots) (s .ticking) ∙ v .chain ByTicks
             ∙ sym (chain-calm ByTicks h (v .sized) (clockSetTo d) refl refl ∙ kept-all (chainFrom ByTicks h))
         each ByDate = fired-shows ws (s .slots) (keep (λ w. ltb d (w .wait)) (s .dated)) ∙ dated-left s h v (clockSetTo d) (λ j. refl) d refl refl set-cut
 
-    pub set-clock-fires : map (listed (s .slots)) (clockMoved s d list .fired)
+    pub set-clock-fires : map (listed (s .slots)) (clockMoved s d .fired)
         ≡ map (λ w. w .shows) (keep (dueNow ByTicks (clockSetTo d) h) (chainFrom ByTicks h))
         ++ map (λ w. w .shows) (keep (dueNow ByDate (clockSetTo d) h) (chainFrom ByDate h))
     set-clock-fires =
@@ -116,80 +116,79 @@ module _ (s : State) (h : List Event) (v : Agrees s h) (f : WellFormed s) where
         (sym (kept-none (chainFrom ByTicks h)))
 
   -- ---- tick
-  module _ (list : List ℕ) where
-    tick-per : perSecond (oneTick ∷ h) ≡ clockStep (s .clock) .perSecond
-    tick-per = v .per ∙ sym (clock-perSecond (s .clock))
+  tick-per : perSecond (oneTick ∷ h) ≡ clockStep (s .clock) .perSecond
+  tick-per = v .per ∙ sym (clock-perSecond (s .clock))
 
-    tick-clock : clockAfter 0 (oneTick ∷ h) ≡ standing (clockStep (s .clock))
-    tick-clock =
-        one-later 0 h ∙ ap₂ onward (v .per) (v .clock) ∙ step-onward (s .clock) (f .into) (f .second-high)
+  tick-clock : clockAfter 0 (oneTick ∷ h) ≡ standing (clockStep (s .clock))
+  tick-clock =
+      one-later 0 h ∙ ap₂ onward (v .per) (v .clock) ∙ step-onward (s .clock) (f .into) (f .second-high)
 
-    tick-cut : All (λ w. past (w .wait) (oneTick ∷ h) ≡ leb (w .wait) (clockStep (s .clock) .second)) (s .dated)
-    tick-cut = all-map (λ w p. cut-clock (clockStep (s .clock)) (oneTick ∷ h) (w .wait) tick-per tick-clock (clock-into (s .clock) (f .into))
-        (λ e. omega (arith, p .0, ap (λ (c : Clock). c .second) (clock-unset (s .clock) (sym (clock-isSet (s .clock)) ∙ e))))) (s .dated) (f .dates)
+  tick-cut : All (λ w. past (w .wait) (oneTick ∷ h) ≡ leb (w .wait) (clockStep (s .clock) .second)) (s .dated)
+  tick-cut = all-map (λ w p. cut-clock (clockStep (s .clock)) (oneTick ∷ h) (w .wait) tick-per tick-clock (clock-into (s .clock) (f .into))
+      (λ e. omega (arith, p .0, ap (λ (c : Clock). c .second) (clock-unset (s .clock) (sym (clock-isSet (s .clock)) ∙ e))))) (s .dated) (f .dates)
 
-    nearer-due : (n : ℕ) → leb (n - 1) 0 ≡ leb n 1
-    nearer-due n =
-        cases (leb n 1)
-        (λ e. le-leb (n - 1) 0 (omega (arith, leb-true n 1 e)) ∙ sym e)
-        (λ e. lt-leb (n - 1) 0 (omega (arith, leb-false n 1 e)) ∙ sym e)
+  nearer-due : (n : ℕ) → leb (n - 1) 0 ≡ leb n 1
+  nearer-due n =
+      cases (leb n 1)
+      (λ e. le-leb (n - 1) 0 (omega (arith, leb-true n 1 e)) ∙ sym e)
+      (λ e. lt-leb (n - 1) 0 (omega (arith, leb-false n 1 e)) ∙ sym e)
 
-    nearer-left : (n : ℕ) → ltb 0 (n - 1) ≡ not (leb n 1)
-    nearer-left n = not-leb (n - 1) 0 ∙ ap not (nearer-due n)
+  nearer-left : (n : ℕ) → ltb 0 (n - 1) ≡ not (leb n 1)
+  nearer-left n = not-leb (n - 1) 0 ∙ ap not (nearer-due n)
 
-    ticks-left : map (shown (s .slots)) (keep (λ w. ltb 0 (w .wait)) (map closer (s .ticking))) ≡ chainFrom ByTicks (oneTick ∷ h)
-    ticks-left =
-        let sl = s .slots in
-        let l = s .ticking in
-        ap (map (shown sl)) (keep-map closer (λ w. ltb 0 (w .wait)) l
-        ∙ ap (map closer) (keep-on (λ w. ltb 0 (w .wait - 1)) (λ w. not (leb (w .wait) 1)) l (all (λ w. nearer-left (w .wait)) l)))
-        ∙ map-map (shown sl) closer (keep (λ w. not (leb (w .wait) 1)) l)
-        ∙ sym (map-map down (shown sl) (keep (λ w. not (leb (w .wait) 1)) l))
-        ∙ ap (map down) (sym (keep-map (shown sl) (λ w. not (leb (w .wait) 1)) l) ∙ ap (keep (λ w. not (leb (w .wait) 1))) (v .chain ByTicks))
-        ∙ sym (chain-moved ByTicks h (v .sized) oneTick refl)
-      where
-        down : Waiting → Waiting
-        down w = record { shows = w .shows; mode = w .mode; interval = w .interval; wait = w .wait - 1 }
+  ticks-left : map (shown (s .slots)) (keep (λ w. ltb 0 (w .wait)) (map closer (s .ticking))) ≡ chainFrom ByTicks (oneTick ∷ h)
+  ticks-left =
+      let sl = s .slots in
+      let l = s .ticking in
+      ap (map (shown sl)) (keep-map closer (λ w. ltb 0 (w .wait)) l
+      ∙ ap (map closer) (keep-on (λ w. ltb 0 (w .wait - 1)) (λ w. not (leb (w .wait) 1)) l (all (λ w. nearer-left (w .wait)) l)))
+      ∙ map-map (shown sl) closer (keep (λ w. not (leb (w .wait) 1)) l)
+      ∙ sym (map-map down (shown sl) (keep (λ w. not (leb (w .wait) 1)) l))
+      ∙ ap (map down) (sym (keep-map (shown sl) (λ w. not (leb (w .wait) 1)) l) ∙ ap (keep (λ w. not (leb (w .wait) 1))) (v .chain ByTicks))
+      ∙ sym (chain-moved ByTicks h (v .sized) oneTick refl)
+    where
+      down : Waiting → Waiting
+      down w = record { shows = w .shows; mode = w .mode; interval = w .interval; wait = w .wait - 1 }
 
-    ticks-fire : map (listed (s .slots)) (keep (λ w. leb (w .wait) 0) (map closer (s .ticking)))
-        ≡ map (λ w. w .shows) (keep (dueNow ByTicks oneTick h) (chainFrom ByTicks h))
-    ticks-fire =
-        let sl = s .slots in
-        let l = s .ticking in
-        ap (map (listed sl)) (keep-map closer (λ w. leb (w .wait) 0) l
-        ∙ ap (map closer) (keep-on (λ w. leb (w .wait - 1) 0) (λ w. leb (w .wait) 1) l (all (λ w. nearer-due (w .wait)) l)))
-        ∙ map-map (listed sl) closer (keep (λ w. leb (w .wait) 1) l)
-        ∙ sym (map-map (λ w. w .shows) (shown sl) (keep (λ w. leb (w .wait) 1) l))
-        ∙ ap (map (λ w. w .shows)) (sym (keep-map (shown sl) (λ w. leb (w .wait) 1) l) ∙ ap (keep (λ w. leb (w .wait) 1)) (v .chain ByTicks))
+  ticks-fire : map (listed (s .slots)) (keep (λ w. leb (w .wait) 0) (map closer (s .ticking)))
+      ≡ map (λ w. w .shows) (keep (dueNow ByTicks oneTick h) (chainFrom ByTicks h))
+  ticks-fire =
+      let sl = s .slots in
+      let l = s .ticking in
+      ap (map (listed sl)) (keep-map closer (λ w. leb (w .wait) 0) l
+      ∙ ap (map closer) (keep-on (λ w. leb (w .wait - 1) 0) (λ w. leb (w .wait) 1) l (all (λ w. nearer-due (w .wait)) l)))
+      ∙ map-map (listed sl) closer (keep (λ w. leb (w .wait) 1) l)
+      ∙ sym (map-map (λ w. w .shows) (shown sl) (keep (λ w. leb (w .wait) 1) l))
+      ∙ ap (map (λ w. w .shows)) (sym (keep-map (shown sl) (λ w. leb (w .wait) 1) l) ∙ ap (keep (λ w. leb (w .wait) 1)) (v .chain ByTicks))
 
-    pub on-tick : Agrees (ticked s list .state) (oneTick ∷ h)
-    on-tick = record {
-      chain = each;
-      sized = sized-more h oneTick (v .sized) tt;
-      memory = λ i. subst (Remembers h i) (sym (memo-firedAll ds (firedAll ws (s .slots)) i ∙ memo-firedAll ws (s .slots) i)) (v .memory i);
-      per = tick-per;
-      clock = tick-clock;
-    }
-      where
-        ws : List Link
-        ws = keep (λ w. leb (w .wait) 0) (map closer (s .ticking))
+  pub on-tick : Agrees (ticked s .state) (oneTick ∷ h)
+  on-tick = record {
+    chain = each;
+    sized = sized-more h oneTick (v .sized) tt;
+    memory = λ i. subst (Remembers h i) (sym (memo-firedAll ds (firedAll ws (s .slots)) i ∙ memo-firedAll ws (s .slots) i)) (v .memory i);
+    per = tick-per;
+    clock = tick-clock;
+  }
+    where
+      ws : List Link
+      ws = keep (λ w. leb (w .wait) 0) (map closer (s .ticking))
 
-        ds : List Link
-        ds = keep (λ w. leb (w .wait) (clockStep (s .clock) .second)) (s .dated)
+      ds : List Link
+      ds = keep (λ w. leb (w .wait) (clockStep (s .clock) .second)) (s .dated)
 
-        same : (l : List Link) → map (shown (firedAll ds (firedAll ws (s .slots)))) l ≡ map (shown (s .slots)) l
-        same l = fired-shows ds (firedAll ws (s .slots)) l ∙ fired-shows ws (s .slots) l
+      same : (l : List Link) → map (shown (firedAll ds (firedAll ws (s .slots)))) l ≡ map (shown (s .slots)) l
+      same l = fired-shows ds (firedAll ws (s .slots)) l ∙ fired-shows ws (s .slots) l
 
-        each : (k : Chain) → map (shown (firedAll ds (firedAll ws (s .slots)))) (chainOf k (ticked s list .state)) ≡ chainFrom k (oneTick ∷ h)
-        each ByTicks = same (keep (λ w. ltb 0 (w .wait)) (map closer (s .ticking))) ∙ ticks-left
-        each ByDate =
-            same (keep (λ w. ltb (clockStep (s .clock) .second) (w .wait)) (s .dated))
-            ∙ dated-left s h v oneTick (λ j. refl) (clockStep (s .clock) .second) refl refl tick-cut
+      each : (k : Chain) → map (shown (firedAll ds (firedAll ws (s .slots)))) (chainOf k (ticked s .state)) ≡ chainFrom k (oneTick ∷ h)
+      each ByTicks = same (keep (λ w. ltb 0 (w .wait)) (map closer (s .ticking))) ∙ ticks-left
+      each ByDate =
+          same (keep (λ w. ltb (clockStep (s .clock) .second) (w .wait)) (s .dated))
+          ∙ dated-left s h v oneTick (λ j. refl) (clockStep (s .clock) .second) refl refl tick-cut
 
-    pub tick-fires : map (listed (s .slots)) (ticked s list .fired)
-        ≡ map (λ w. w .shows) (keep (dueNow ByTicks oneTick h) (chainFrom ByTicks h))
-        ++ map (λ w. w .shows) (keep (dueNow ByDate oneTick h) (chainFrom ByDate h))
-    tick-fires =
-        let now = clockStep (s .clock) .second in
-        map-append (listed (s .slots)) (keep (λ w. leb (w .wait) 0) (map closer (s .ticking))) (keep (λ w. leb (w .wait) now) (s .dated))
-        ∙ ap₂ (λ (a b : List Fired). a ++ b) ticks-fire (dated-fires s h v oneTick (λ j. refl) now refl refl tick-cut)
+  pub tick-fires : map (listed (s .slots)) (ticked s .fired)
+      ≡ map (λ w. w .shows) (keep (dueNow ByTicks oneTick h) (chainFrom ByTicks h))
+      ++ map (λ w. w .shows) (keep (dueNow ByDate oneTick h) (chainFrom ByDate h))
+  tick-fires =
+      let now = clockStep (s .clock) .second in
+      map-append (listed (s .slots)) (keep (λ w. leb (w .wait) 0) (map closer (s .ticking))) (keep (λ w. leb (w .wait) now) (s .dated))
+      ∙ ap₂ (λ (a b : List Fired). a ++ b) ticks-fire (dated-fires s h v oneTick (λ j. refl) now refl refl tick-cut)

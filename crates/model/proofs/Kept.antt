@@ -13,7 +13,7 @@ use Rattle.calendar.specs.Calendar.{secondsOf, lastSecond}
 use Rattle.calendar.proofs.Theorems.{seconds-in-range}
 use Rattle.model.specs.Lists.{keep, place, All}
 use Rattle.model.specs.Status.{firstOf}
-use Rattle.model.specs.Calls.{Call, layOut, create, ident, cancel, delete, fireAfter, fireWhen, reset, ticksLeft, tick, setClock, getClock}
+use Rattle.model.specs.Calls.{Call, layOut, create, ident, cancel, delete, fireAfter, fireWhen, reset, ticksLeft, tick, setClock, getClock, isLayOut}
 use Rattle.model.specs.Kinds.{Chain, ByTicks, ByDate, Mode, After, When, kindAt, chainFor, sameChain, waitsIn, lastMode}
 use Rattle.model.specs.State.{Slot, Link, Clock, State, chainOf, rechain, reclock, free, slotAt, putAt, without, indexOf}
 use Rattle.model.specs.Directives.{refusals, lowestFree, laidOut, stored, unused, stopped, idled, waitingAs, started, firedAll, due, fire, nearer, clockAt, clockStep, effect}
@@ -25,8 +25,8 @@ use Rattle.model.proofs.KindLaws.{stopped-not-in, timed-started, timed-
 use Rattle.model.proofs.ClockSteps.{clock-isSet, clock-perSecond, clock-into, clock-last, clock-unset}
 use Rattle.model.proofs.Searches.{found}
 use Rattle.model.proofs.Shapes.{free-shape, unused-shape, Some, waiting-shape, idle-shape, shape-firedAll}
-use Rattle.model.proofs.Steps.{rechain-slots, rechain-clock, rechained, stored-chain, stopped-chain, length-laid, length-stored, length-stopped, length-started, room-started, length-fire, chained-stored, chained-stopped, chained-started, chained-fire, chained-nearer, chained-reclock, chained-laid}
-use Rattle.model.proofs.Refused.{Named, accepted-facts, isLayOut}
+use Rattle.model.proofs.Steps.{rechain-slots, rechain-clock, rechained, stored-chain, stopped-chain, length-laid, length-stored, length-stopped, length-started, length-fire, chained-stored, chained-stopped, chained-started, chained-fire, chained-nearer, chained-reclock, chained-laid}
+use Rattle.model.proofs.Refused.{Named, accepted-facts}
 
 -- ---- the parts of well-formedness
 
@@ -90,13 +90,13 @@ formed-rechain k s slots l chained some clock shape own rest =
 
 -- ---- lay out
 
-pub laid-well-formed : (room n t : ℕ) → 1 ≤ n → n ≤ 255 → 1 ≤ t → t ≤ 1000 → WellFormed (laidOut room n t)
-laid-well-formed room n t n₁ n₂ t₁ t₂ =
-    formed (laidOut room n t) (chained-laid room n t n₂) (omega (arith, length-laid room n t))
+pub laid-well-formed : (n t : ℕ) → 1 ≤ n → n ≤ 255 → 1 ≤ t → t ≤ 1000 → WellFormed (laidOut n t)
+laid-well-formed n t n₁ n₂ t₁ t₂ =
+    formed (laidOut n t) (chained-laid n t n₂) (omega (arith, length-laid n t))
     (record { per-low = t₁; per-high = t₂; into = t₁; second-high = zero-le; unset = λ e. (refl, refl) })
     (λ i. rw (blank n i) free-shape) none
   where
-    none : (k : Chain) → AllAhead k (laidOut room n t .clock) (chainOf k (laidOut room n t))
+    none : (k : Chain) → AllAhead k (laidOut n t .clock) (chainOf k (laidOut n t))
     none ByTicks = tt
     none ByDate = tt
 
@@ -198,35 +198,35 @@ module _ (s : State) (h : WellFormed s) where
   has-name : (id : ℕ) → Named s id → 0 < slotAt (s .slots) (indexOf id) .name
   has-name id is = h .shape (indexOf id) .named (pos-of-ne-zero (is .alive))
 
-  module _ (unsound : Bool) where
-    pub kept : (c : Call) → firstOf (refusals unsound s c) ≡ 0 → WellFormed (effect s c .state)
+  module _ (words : List ℕ) where
+    pub kept : (c : Call) → firstOf (refusals words s c) ≡ 0 → WellFormed (effect s c .state)
     kept (layOut n t) e =
-        let p = accepted-facts unsound s (layOut n t) e in
-        laid-well-formed (s .room) n t (p .slots-low) (p .slots-high) (p .ticks-low) (p .ticks-high)
+        let p = accepted-facts words s (layOut n t) e in
+        laid-well-formed n t (p .slots-low) (p .slots-high) (p .ticks-low) (p .ticks-high)
     kept (create name) e =
-        let p = accepted-facts unsound s (create name) e in
+        let p = accepted-facts words s (create name) e in
         let at = found (λ x. eqb (x .kind) 0) (s .slots) (p .1) in
         formed-stored s h (lowestFree s) (unused name) (at .low) (at .high) (eqb-true (slotAt (s .slots) (lowestFree s) .kind) 0 (at .passes))
         (λ k. refl) (unused-shape name (p .0))
     kept (ident name) e = h
     kept (cancel id) e =
-        let is = accepted-facts unsound s (cancel id) e in
+        let is = accepted-facts words s (cancel id) e in
         let x = slotAt (s .slots) (indexOf id) in
         formed-stopped s h (indexOf id) (idled x) (is .low) (is .high) (λ k. stopped-not-in k (x .kind)) (idle-shape x (h .shape (indexOf id)))
     kept (delete id) e =
-        let is = accepted-facts unsound s (delete id) e in
+        let is = accepted-facts words s (delete id) e in
         formed-stopped s h (indexOf id) free (is .low) (is .high) (λ k. refl) free-shape
     kept (fireAfter id n r u) e =
-        let p = accepted-facts unsound s (fireAfter id n r u) e in
+        let p = accepted-facts words s (fireAfter id n r u) e in
         let is = p .names-one in
         formed-started s h After (indexOf id) n r u (is .low) (is .high) (has-name id is) (p .routine) (p .ticks) (p .ticks)
     kept (fireWhen id w r u) e =
-        let p = accepted-facts unsound s (fireWhen id w r u) e in
+        let p = accepted-facts words s (fireWhen id w r u) e in
         let is = p .names-one in
         formed-started s h When (indexOf id) (secondsOf w) r u (is .low) (is .high) (has-name id is) (p .routine) tt
         (p .running, p .later, seconds-in-range w (p .is-valid))
     kept (reset id) e =
-        let p = accepted-facts unsound s (reset id) e in
+        let p = accepted-facts words s (reset id) e in
         let is = p .0 in
         let x = slotAt (s .slots) (indexOf id) in
         let some = h .shape (indexOf id) .by-ticks (p .1) in
@@ -235,26 +235,12 @@ module _ (s : State) (h : WellFormed s) where
         (h .shape (indexOf id) .used (timed-started (x .kind) (p .1))) (rw by-ticks some) (rw by-ticks some)
     kept (ticksLeft id) e = h
     kept (tick list) e = formed-ticked list
-    kept (setClock w list) e = formed-clock-set (secondsOf w) (seconds-in-range w (accepted-facts unsound s (setClock w list) e .1))
+    kept (setClock w list) e = formed-clock-set (secondsOf w) (seconds-in-range w (accepted-facts words s (setClock w list) e .1))
     kept getClock e = h
 
 -- ---- what no call changes, and how many fire
 
 module _ (s : State) where
-  pub effect-room : (c : Call) → effect s c .state .room ≡ s .room
-  effect-room (layOut n t) = refl
-  effect-room (create name) = refl
-  effect-room (ident name) = refl
-  effect-room (cancel id) = refl
-  effect-room (delete id) = refl
-  effect-room (fireAfter id n r u) = refl
-  effect-room (fireWhen id w r u) = refl
-  effect-room (reset id) = let x = slotAt (s .slots) (indexOf id) in room-started (lastMode (x .kind)) s (indexOf id) (x .interval) (x .routine) (x .userData)
-  effect-room (ticksLeft id) = refl
-  effect-room (tick list) = refl
-  effect-room (setClock w list) = refl
-  effect-room getClock = refl
-
   -- every call but lay out leaves as many slots as there were
   pub slots-kept : (c : Call) → isLayOut c ≡ false → length (effect s c .state .slots) ≡ length (s .slots)
   slots-kept (layOut n t) l = clash l

@@ -6,7 +6,7 @@ use mathlib.Core.Bool.{Bool, true, false, cond}
 use mathlib.Core.Option.{Option, none, some}
 use mathlib.Core.List.{List}
 use lib.ListN.{length, getD, List·getD-eq-default}
-use lib.Dec.{ltb}
+use lib.Dec.{ltb, eqb}
 use borrow.Author.Tests.{ltb-true, ltb-false}
 use Rattle.model.specs.Kinds.{Chain, ByTicks, ByDate, Mode, After, When, Kind, is, kinds, kindAt, chainFor, waitingKind, sameChain, isIn, waitsIn, isSome, byTicks, lastByTicks, orAfter}
 use Rattle.model.proofs.ListLaws.{cases, clash}
@@ -24,6 +24,12 @@ any-kind P h d n =
     cases (ltb n (length kinds))
     (λ e. kind-law (λ _. P) h n (ltb-true n (length kinds) e))
     (λ e. let is-none = no-kind n (ltb-false n (length kinds) e) in subst P (sym is-none) (d n is-none))
+
+pub number-law : (P : ℕ → Kind → Type 0) → Each P 0 kinds → ((n : ℕ) → P n (is none n n none)) → (n : ℕ) → P n (kindAt n)
+number-law P h d n =
+    cases (ltb n (length kinds))
+    (λ e. kind-law P h n (ltb-true n (length kinds) e))
+    (λ e. subst (P n) (sym (no-kind n (ltb-false n (length kinds) e))) (d n))
 
 -- ---- chains
 
@@ -71,6 +77,13 @@ stopped-not-in k = any-kind (λ x. waitsIn k (x .stopped) ≡ false) (refl & ref
 
 pub fired-not-in : (k : Chain) (n : ℕ) → waitsIn k (kindAt n .fired) ≡ false
 fired-not-in k = any-kind (λ x. waitsIn k (x .fired) ≡ false) (refl & refl & refl & refl & refl & refl & end) (λ n e. ap (λ (x : Kind). isIn k (x .chain)) e)
+
+-- to stop and to fire leave a slot free or not
+pub stopped-free : (n : ℕ) → eqb (kindAt n .stopped) 0 ≡ eqb n 0
+stopped-free = number-law (λ n x. eqb (x .stopped) 0 ≡ eqb n 0) (refl & refl & refl & refl & refl & refl & end) (λ n. refl)
+
+pub fired-free : (n : ℕ) → eqb (kindAt n .fired) 0 ≡ eqb n 0
+fired-free = number-law (λ n x. eqb (x .fired) 0 ≡ eqb n 0) (refl & refl & refl & refl & refl & refl & end) (λ n. refl)
 
 -- a timer in no chain has nothing to stop
 pub stays : (n : ℕ) → isSome (kindAt n .chain) ≡ false → kindAt n .stopped ≡ n

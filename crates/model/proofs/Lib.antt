@@ -25,6 +25,8 @@ pub mod Simulation
 pub mod ClockSimulation
 pub mod Agreement
 pub mod OutcomeLaws
+pub mod CallTables
+pub mod Lasting
 pub mod Demand3
 pub mod Readings
 pub mod Cases

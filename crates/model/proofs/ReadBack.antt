@@ -127,7 +127,6 @@ module _ (t : List ℕ) (s : State) (h : Holds t s) where
 
   pub read-back : read t ≡ s
   read-back = λ d. record {
-    room = sym (h .room) d;
     slots = slots-is d;
     clock = record {
       perSecond = heads 1 (omega arith) d;
@@ -146,11 +145,11 @@ over-over s s′ t e =
     ap (write s′) (ap (λ (m : ℕ). drop (10 + 8 * m) (over s t)) e ∙ drop-write s (drop (10 + 8 * length (s .slots)) t)
     ∙ ap (λ (m : ℕ). drop (10 + 8 * m) t) (sym e))
 
-pub written-holds : (t : List ℕ) (s : State) → Chained s → 10 + 8 * length (s .slots) ≤ length t → s .room ≡ length t → Holds (over s t) s
-written-holds t s h long room =
+pub written-holds : (t : List ℕ) (s : State) → Chained s → 10 + 8 * length (s .slots) ≤ length t → Holds (over s t) s
+written-holds t s h long =
     let same = length-over s t long in
-    record { is = over-over s s t refl; long = omega arith; room = room ∙ sym same; chained = h }
+    record { is = over-over s s t refl; long = omega arith; chained = h }
 
-pub over-holds : (t : List ℕ) (s s′ : State) → Holds t s → Chained s′ → length (s′ .slots) ≡ length (s .slots) → s′ .room ≡ s .room
+pub over-holds : (t : List ℕ) (s s′ : State) → Holds t s → Chained s′ → length (s′ .slots) ≡ length (s .slots)
     → Holds (over s′ t) s′
-over-holds t s s′ h c e r = written-holds t s′ c (omega (arith, h .long, e)) (r ∙ h .room)
+over-holds t s s′ h c e = written-holds t s′ c (omega (arith, h .long, e))

@@ -10,10 +10,10 @@ use lib.Dec.{leb, eqb}
 use borrow.Author.Tests.{leb-true, leb-false, eqb-true, eqb-false, eq-eqb, ne-eqb}
 use Rattle.calendar.specs.declared.WallTime.{WallTime}
 use Rattle.model.specs.Lists.{goesBehind, keep, any, place, All, Sorted, InOrder}
-use Rattle.model.specs.Calls.{Call, layOut, tick, setClock}
-use Rattle.model.specs.Kinds.{Chain, ByTicks, ByDate, After, chainFor, sameChain}
+use Rattle.model.specs.Calls.{Call, layOut, tick, setClock, lentTo}
+use Rattle.model.specs.Kinds.{Chain, ByTicks, ByDate, After, When, chainFor, sameChain}
 use Rattle.model.specs.State.{Fired}
-use Rattle.model.specs.History.{Start, startOf, Event, changes, oneTick, eventOf, clockSetTo, startIn, isTick, ticks, Placed, also, placed, starts, ends, wasEnded, isDue, wasDueIn, wasDue, waits, fires, inChain, left, entry}
+use Rattle.model.specs.History.{Start, startOf, Event, changes, oneTick, eventOf, clockSetTo, startIn, isTick, ticks, past, moves, Placed, also, placed, starts, ends, wasEnded, isDue, wasDueIn, wasDue, waits, fires, inChain, left, entry}
 use Rattle.model.specs.Directives.{effect}
 use Rattle.model.specs.Words.{over, links, read}
 use Rattle.model.specs.Sound.{sound}
@@ -24,7 +24,8 @@ use Rattle.model.proofs.Order.{order, orderOn, all-orderOn, order-in-or
 use Rattle.model.proofs.ReadBack.{links-is}
 use Rattle.model.proofs.HistoryLaws.{fewer}
 use Rattle.model.proofs.OutcomeLaws.{outcome-accepted, outcome-status}
-use Rattle.model.proofs.Demand3.{effect-holds, demand3}
+use Rattle.model.proofs.CallTables.{effect-holds}
+use Rattle.model.proofs.Demand3.{demand3}
 
 -- ---- 1. The order leaves one list only.
 
@@ -163,6 +164,25 @@ module _ (P Q : List Event) (id timer n r u : ℕ) (some-ticks : 0 < n) where
       now true b = refl
       now false b = refl
 
+-- A start for a date fires in just the tick or set clock that leaves the clock at or past it, where none did so before and it was not ended.
+abbrev pub forDate : ℕ → ℕ → ℕ → ℕ → Start
+forDate timer d r u = startOf timer When d r u
+
+-- some tick or set clock of Q, which came after P, left the clock at or past the date
+abbrev pub reached : ℕ → List Event → List Event → Bool
+reached d P [] = false
+reached d P (e ∷ Q) = (moves e && past d (e ∷ Q ++ P)) || reached d P Q
+
+pub at-date : (P Q : List Event) (id timer d r u : ℕ) (e : Event) → let g = startAt P id (forDate timer d r u) Q in
+    fires e g ≡ ((not (any (ends timer) Q) && not (reached d (g .before) Q)) && (moves e && past d (e ∷ Q ++ g .before)))
+at-date P Q id timer d r u e =
+    let B = changes id (some (forDate timer d r u)) ∷ P in
+    ap (λ (b : Bool). (not (any (ends timer) Q) && not b) && (moves e && past d (e ∷ Q ++ B))) (was B Q)
+  where
+    was : (B Q : List Event) → wasDueIn (forDate timer d r u) B Q ≡ reached d B Q
+    was B [] = refl
+    was B (x ∷ Q) = ap (λ (b : Bool). (moves x && past d (x ∷ Q ++ B)) || b) (was B Q)
+
 -- ---- 5. What fires is listed.
 
 mem-keep : {A : Type 0} (p : A → Bool) {x : A} (l : List A) → p x ≡ true → List·Memᴰ x l → List·Memᴰ x (keep p l)
@@ -230,10 +250,32 @@ tick-lists w n t ok xs list P Q id timer k r u accepted is quiet nth =
           (subst (λ (es : List Event). InOrder left (keep (inChain ByTicks) (keep (fires oneTick) (starts es))) (a .ticking)) is (a .ticking-order)))),
     )
 
+-- An accepted tick or set clock that leaves the clock at or past a date lists a start for that date, where none before it did so and nothing
+-- ended it.
+pub date-lists : (w : List ℕ) (n t : ℕ) → outcome w (layOut n t) .status ≡ 0 → (xs : List Call) (c : Call) (P Q : List Event) (id timer d r u : ℕ)
+    → outcome (after w (layOut n t ∷ xs)) c .status ≡ 0 → let es = eventsAfter w (layOut n t ∷ xs) in
+    let B = changes id (some (forDate timer d r u)) ∷ P in
+    es ≡ Q ++ B → any (ends timer) Q ≡ false → reached d B Q ≡ false → moves (eventOf es c) ≡ true → past d (eventOf es c ∷ Q ++ B) ≡ true
+    → (fired : List Fired) × (outcome (after w (layOut n t ∷ xs)) c .list ≡ written fired (lentTo c))
+    × List·Memᴰ (record { id = timer; routine = r; userData = u }) fired
+date-lists w n t ok xs c P Q id timer d r u accepted is quiet before moving there =
+    let es = eventsAfter w (layOut n t ∷ xs) in
+    let e = eventOf es c in
+    let a = demand3 w n t ok (xs ++ (c ∷ [])) .answers xs [] c refl .lists accepted in
+    let s = forDate timer d r u in
+    let now : fires e (startAt P id s Q) ≡ true =
+    at-date P Q id timer d r u e ∙ ap₂ (λ (x y : Bool). (not x && not y) && (moves e && past d (e ∷ Q ++ (changes id (some s) ∷ P)))) quiet before
+    ∙ ap₂ (λ (x y : Bool). x && y) moving there in (
+      map entry (a .ticking ++ a .dated),
+      a .entries,
+      Memᴰ·map entry (Memᴰ·append-right (a .ticking) (fires-listed ByDate P Q id s e (a .dated) refl now
+          (subst (λ (l : List Event). InOrder left (keep (inChain ByDate) (keep (fires e) (starts l))) (a .dated)) is (a .dated-order)))),
+    )
+
 -- Each entry that any accepted call writes is that of a start that is due there, was not due before and was not ended.
 pub lists-only : (w : List ℕ) (n t : ℕ) → outcome w (layOut n t) .status ≡ 0 → (xs : List Call) (c : Call)
     → outcome (after w (layOut n t ∷ xs)) c .status ≡ 0 → (l : List Placed)
-    × (outcome (after w (layOut n t ∷ xs)) c .list ≡ written (map entry l) (effect (read (after w (layOut n t ∷ xs))) c .lent))
+    × (outcome (after w (layOut n t ∷ xs)) c .list ≡ written (map entry l) (lentTo c))
     × All (Listed (eventsAfter w (layOut n t ∷ xs)) (eventOf (eventsAfter w (layOut n t ∷ xs)) c)) l
 lists-only w n t ok xs c accepted =
     let es = eventsAfter w (layOut n t ∷ xs) in

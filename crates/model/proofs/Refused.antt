@@ -11,33 +11,41 @@ use lib.Dec.{leb, ltb, eqb}
 use borrow.Author.Tests.{leb-true, ltb-true, ltb-false, le-leb, lt-ltb, eqb-false, ne-eqb, not-true, not-false}
 use Rattle.calendar.specs.declared.WallTime.{WallTime}
 use Rattle.calendar.specs.Calendar.{allOf, valid, secondsOf}
-use Rattle.model.specs.Lists.{All, every}
-use Rattle.model.specs.Status.{Refusal, firstOf}
+use Rattle.model.specs.Lists.{All}
+use Rattle.model.specs.Status.{Status, InvalidName, InvalidId, TooMany, InvalidSize, InvalidAddress, InvalidNumber, NotDefined, InvalidClock, NotSound, ListTooShort, numberOf, Refusal, when, firstOf}
 use Rattle.model.specs.Calls.{Call, layOut, create, ident, cancel, delete, fireAfter, fireWhen, reset, ticksLeft, tick, setClock, getClock}
 use Rattle.model.specs.Kinds.{lastByTicks}
 use Rattle.model.specs.State.{State, slotAt, idBase, indexOf, names}
-use Rattle.model.specs.Directives.{refusals, lowestFree, lowestNamed, isShort}
+use Rattle.model.specs.Directives.{lowestFree, lowestNamed, isShort, limits, refusals}
 use Rattle.model.proofs.ListLaws.{cases, clash, both, all-at, all-true}
 
 -- ---- any list of rules
 
+-- a rule that never applies
 abbrev pub noRule : Refusal
-noRule = record { number = 0; given = false }
+noRule = when NotSound false
 
--- no rule's number is 0
-abbrev numbered : List Refusal → Bool
-numbered rs = every (λ r. not (eqb (r .number) 0)) rs
+-- no refusal has the number 0
+pub not-zero : (s : Status) → numberOf s ≡ 0 → ⊥
+not-zero InvalidName z = omega arith
+not-zero InvalidId z = omega arith
+not-zero TooMany z = omega arith
+not-zero InvalidSize z = omega arith
+not-zero InvalidAddress z = omega arith
+not-zero InvalidNumber z = omega arith
+not-zero NotDefined z = omega arith
+not-zero InvalidClock z = omega arith
+not-zero NotSound z = omega arith
+not-zero ListTooShort z = omega arith
 
-first-passes : (r : Refusal) (rs : List Refusal) → numbered (r ∷ rs) ≡ true → firstOf (r ∷ rs) ≡ 0 → r .given ≡ false
-first-passes r rs n e =
-    let not-zero = eqb-false (r .number) 0 (not-true (eqb (r .number) 0) (both (not (eqb (r .number) 0)) (numbered rs) n .0)) in
-    cases (r .given) (λ f. absurd (not-zero (rw f at e))) (λ f. f)
+first-passes : (r : Refusal) (rs : List Refusal) → firstOf (r ∷ rs) ≡ 0 → r .given ≡ false
+first-passes r rs e = cases (r .given) (λ f. absurd (not-zero (r .status) (rw f at e))) (λ f. f)
 
 -- rule k, counted from 0, does not apply
-passes : (rs : List Refusal) → numbered rs ≡ true → firstOf rs ≡ 0 → (k : ℕ) → getD rs k noRule .given ≡ false
-passes [] n e k = refl
-passes (r ∷ rs) n e zero = first-passes r rs n e
-passes (r ∷ rs) n e (suc k) = passes rs (both (not (eqb (r .number) 0)) (numbered rs) n .1) (rw (first-passes r rs n e) at e) k
+passes : (rs : List Refusal) → firstOf rs ≡ 0 → (k : ℕ) → getD rs k noRule .given ≡ false
+passes [] e k = refl
+passes (r ∷ rs) e zero = first-passes r rs e
+passes (r ∷ rs) e (suc k) = passes rs (rw (first-passes r rs e) at e) k
 
 pub none-given : (rs : List Refusal) → All (λ r. r .given ≡ false) rs → firstOf rs ≡ 0
 none-given [] h = refl
@@ -45,7 +53,7 @@ none-given (r ∷ rs) h = rw (h .0) (none-given rs (h .1))
 
 -- the rules before rule k do not apply, and it does
 pub first-given : (rs : List Refusal) (k : ℕ) → All (λ r. r .given ≡ false) (take k rs) → getD rs k noRule .given ≡ true
-    → firstOf rs ≡ getD rs k noRule .number
+    → firstOf rs ≡ numberOf (getD rs k noRule .status)
 first-given [] k h e = clash (sym e)
 first-given (r ∷ rs) zero h e = rw e
 first-given (r ∷ rs) (suc k) h e = rw (h .0) (first-given rs k (h .1) e)
@@ -87,12 +95,12 @@ module _ (s : State) (id : ℕ) where
 
 -- ---- each call's tests, as facts
 
-pub record LaysOut (s : State) (n t : ℕ) : Type 0 where
+pub record LaysOut (w : List ℕ) (n t : ℕ) : Type 0 where
   pub slots-low : 1 ≤ n
   pub slots-high : n ≤ 255
   pub ticks-low : 1 ≤ t
   pub ticks-high : t ≤ 1000
-  pub fits : 10 + 8 * n ≤ s .room
+  pub fits : 10 + 8 * n ≤ length w
 
 pub record StartsByTicks (s : State) (id n r : ℕ) : Type 0 where
   pub ticks : 0 < n
@@ -111,70 +119,41 @@ abbrev pub LongEnough : State → List ℕ → Type 0
 LongEnough s list = 3 * length (s .slots) ≤ length list
 
 -- what each call has passed where it is accepted
-abbrev pub Accepted : State → Call → Type 0
-Accepted s (layOut n t) = LaysOut s n t
-Accepted s (create name) = (0 < name) × (0 < lowestFree s)
-Accepted s (ident name) = (0 < name) × (0 < lowestNamed s name)
-Accepted s (cancel id) = Named s id
-Accepted s (delete id) = Named s id
-Accepted s (fireAfter id n r u) = StartsByTicks s id n r
-Accepted s (fireWhen id w r u) = StartsByDate s id w r
-Accepted s (reset id) = Named s id × (lastByTicks (slotAt (s .slots) (indexOf id) .kind) ≡ true)
-Accepted s (ticksLeft id) = Named s id
-Accepted s (tick list) = LongEnough s list
-Accepted s (setClock w list) = LongEnough s list × (valid w ≡ true)
-Accepted s getClock = s .clock .isSet ≡ true
+abbrev pub Accepted : List ℕ → State → Call → Type 0
+Accepted w s (layOut n t) = LaysOut w n t
+Accepted w s (create name) = (0 < name) × (0 < lowestFree s)
+Accepted w s (ident name) = (0 < name) × (0 < lowestNamed s name)
+Accepted w s (cancel id) = Named s id
+Accepted w s (delete id) = Named s id
+Accepted w s (fireAfter id n r u) = StartsByTicks s id n r
+Accepted w s (fireWhen id d r u) = StartsByDate s id d r
+Accepted w s (reset id) = Named s id × (lastByTicks (slotAt (s .slots) (indexOf id) .kind) ≡ true)
+Accepted w s (ticksLeft id) = Named s id
+Accepted w s (tick list) = LongEnough s list
+Accepted w s (setClock d list) = LongEnough s list × (valid d ≡ true)
+Accepted w s getClock = s .clock .isSet ≡ true
 
 positive : (n : ℕ) → eqb n 0 ≡ false → 0 < n
 positive n e = pos-of-ne-zero (eqb-false n 0 e)
 
--- all calls but lay out want a sound table
-abbrev pub isLayOut : Call → Bool
-isLayOut (layOut n t) = true
-isLayOut (create name) = false
-isLayOut (ident name) = false
-isLayOut (cancel id) = false
-isLayOut (delete id) = false
-isLayOut (fireAfter id n r u) = false
-isLayOut (fireWhen id w r u) = false
-isLayOut (reset id) = false
-isLayOut (ticksLeft id) = false
-isLayOut (tick list) = false
-isLayOut (setClock w list) = false
-isLayOut getClock = false
-
-module _ (unsound : Bool) (s : State) where
-  all-numbered : (c : Call) → numbered (refusals unsound s c) ≡ true
-  all-numbered (layOut n t) = refl
-  all-numbered (create name) = refl
-  all-numbered (ident name) = refl
-  all-numbered (cancel id) = refl
-  all-numbered (delete id) = refl
-  all-numbered (fireAfter id n r u) = refl
-  all-numbered (fireWhen id w r u) = refl
-  all-numbered (reset id) = refl
-  all-numbered (ticksLeft id) = refl
-  all-numbered (tick list) = refl
-  all-numbered (setClock w list) = refl
-  all-numbered getClock = refl
-
+module _ (words : List ℕ) (s : State) where
   -- rule k of the call does not apply
-  not-refused : (c : Call) → firstOf (refusals unsound s c) ≡ 0 → (k : ℕ) → getD (refusals unsound s c) k noRule .given ≡ false
-  not-refused c e = passes (refusals unsound s c) (all-numbered c) e
+  not-refused : (c : Call) → firstOf (refusals words s c) ≡ 0 → (k : ℕ) → getD (refusals words s c) k noRule .given ≡ false
+  not-refused c e = passes (refusals words s c) e
 
   long-enough : (list : List ℕ) → isShort s list ≡ false → LongEnough s list
   long-enough list e = ltb-false (length list) (3 * length (s .slots)) e
 
-  pub accepted-facts : (c : Call) → firstOf (refusals unsound s c) ≡ 0 → Accepted s c
+  pub accepted-facts : (c : Call) → firstOf (refusals words s c) ≡ 0 → Accepted words s c
   accepted-facts (layOut n t) e =
       let p = not-refused (layOut n t) e in
-      let b = all-at (leb 1 n ∷ leb n 255 ∷ leb 1 t ∷ leb t 1000 ∷ []) (not-false (allOf (leb 1 n ∷ leb n 255 ∷ leb 1 t ∷ leb t 1000 ∷ [])) (p 0)) in
+      let b = all-at (limits n t) (not-false (allOf (limits n t)) (p 0)) in
       record {
         slots-low = leb-true 1 n (b 0);
         slots-high = leb-true n 255 (b 1);
         ticks-low = leb-true 1 t (b 2);
         ticks-high = leb-true t 1000 (b 3);
-        fits = ltb-false (s .room) (10 + 8 * n) (p 1);
+        fits = ltb-false (length words) (10 + 8 * n) (p 1);
       }
   accepted-facts (create name) e = let p = not-refused (create name) e in (positive name (p 1), positive (lowestFree s) (p 2))
   accepted-facts (ident name) e = let p = not-refused (ident name) e in (positive name (p 1), positive (lowestNamed s name) (p 2))

@@ -13,7 +13,7 @@ use Rattle.model.specs.Lists.{keep, place, All}
 use Rattle.model.specs.Kinds.{Chain, ByTicks, ByDate, Mode, chainFor, sameChain}
 use Rattle.model.specs.State.{Slot, Link, State, chainOf, free, slotAt, putAt, without, idBase}
 use Rattle.model.specs.Directives.{laidOut, stored, stopped, intervalIn, waitingAs, started}
-use Rattle.model.specs.History.{Start, startOf, Event, laidOutFor, changes, nothing, lastStart, perSecond, clockAfter, starts, Waiting}
+use Rattle.model.specs.History.{Start, startOf, Event, laidOutFor, changes, deletes, nothing, lastStart, perSecond, clockAfter, starts, Waiting}
 use Rattle.model.specs.Demand.{shown}
 use Rattle.model.proofs.ListLaws.{cases, clash, all, all-map, all-passed, keep-all, keep-none, keep-map, keep-on, map-on, map-place}
 use Rattle.model.proofs.KindLaws.{own-chain, mode-last}
@@ -105,10 +105,10 @@ module _ (s : State) (h : List Event) (v : Agrees s h) where
       look : (l : List Link) → map (shown (putAt (s .slots) i x)) l ≡ map (shown (s .slots)) l
       look = shown-memo (s .slots) (putAt (s .slots) i x) (λ j. field-put memo (s .slots) i j x same)
 
-  pub on-lay-out : (room n t : ℕ) → Agrees (laidOut room n t) (laidOutFor t ∷ h)
-  on-lay-out room n t = record {
+  pub on-lay-out : (n t : ℕ) → Agrees (laidOut n t) (laidOutFor t ∷ h)
+  on-lay-out n t = record {
     sized = sized-more h (laidOutFor t) (v .sized) tt;
-    chain = λ k. ap (map (shown (replicate n free))) (laid-chain room n t k) ∙ sym (ended k (calm k));
+    chain = λ k. ap (map (shown (replicate n free))) (laid-chain n t k) ∙ sym (ended k (calm k));
     memory = λ i. no-start (laidOutFor t ∷ h) i (memo (slotAt (replicate n free) i)) (ap (λ (x : Slot). memo x .last) (blank n i));
     per = refl;
     clock = refl;
@@ -122,10 +122,10 @@ module _ (s : State) (h : List Event) (v : Agrees s h) where
       calm ByDate = refl
 
 -- the table that a lay out leaves, with nothing before it
-pub agrees-laid : (room n t : ℕ) → Agrees (laidOut room n t) (laidOutFor t ∷ [])
-agrees-laid room n t = record {
+pub agrees-laid : (n t : ℕ) → Agrees (laidOut n t) (laidOutFor t ∷ [])
+agrees-laid n t = record {
   sized = tt;
-  chain = λ k. ap (map (shown (replicate n free))) (laid-chain room n t k);
+  chain = λ k. ap (map (shown (replicate n free))) (laid-chain n t k);
   memory = λ i. no-start (laidOutFor t ∷ []) i (memo (slotAt (replicate n free) i)) (ap (λ (x : Slot). memo x .last) (blank n i));
   per = refl;
   clock = refl;
@@ -163,6 +163,24 @@ module _ (s : State) (h : List Event) (v : Agrees s h) (id i : ℕ) (is : id ≡
     chain = λ k. rw stopped-chain (without-slot x (chainOf k s) ∙ ap rest (v .chain k)
         ∙ sym (chain-calm k h (v .sized) (changes id none) (stop-calm none k) refl));
     memory = put-at (λ j y. Remembers h j (memo y)) (s .slots) i x low high remember (λ j n. v .memory j);
+    per = v .per;
+    clock = v .clock;
+  }
+
+  delete-calm : (k : Chain) → bringsDue k (deletes id) ≡ false
+  delete-calm ByTicks = refl
+  delete-calm ByDate = refl
+
+  -- slot i becomes free
+  pub on-delete : Agrees (stopped s i free) (deletes id ∷ h)
+  on-delete = record {
+    sized = sized-more h (deletes id) (v .sized) tt;
+    chain = λ k. rw stopped-chain (without-slot free (chainOf k s) ∙ ap rest (v .chain k)
+        ∙ sym (chain-calm k h (v .sized) (deletes id) (delete-calm k) refl));
+    memory = put-at (λ j y. Remembers (deletes id ∷ h) j (memo y)) (s .slots) i free low high (no-start (deletes id ∷ h) i (memo free) refl)
+        (λ j n o t p.
+        let w = v .memory j o t p in
+        (w .0, ap (λ (b : Bool). cond b none (lastStart (idBase + j) h)) (other-id j n) ∙ w .1));
     per = v .per;
     clock = v .clock;
   }

@@ -301,7 +301,7 @@ module _ (t : List ℕ) (ok : sound t ≡ true) where
           (λ e. e)
 
   pub sound-holds : Holds t (read t)
-  sound-holds = parts-holds t (read t) chained parts (omega (arith, slots-length t, sound-header .long)) refl
+  sound-holds = parts-holds t (read t) chained parts (omega (arith, slots-length t, sound-header .long))
 
   pub sound-well-formed : WellFormed (read t)
   sound-well-formed =

@@ -263,8 +263,8 @@ module _ (t : List ℕ) (s : State) (h : Chained s) where
 pub holds-parts : (t : List ℕ) (s : State) → Holds t s → Parts t s
 holds-parts t s h = spelled-parts t s (h .chained) (holds-spelled t s h)
 
-pub parts-holds : (t : List ℕ) (s : State) → Chained s → Parts t s → 10 + 8 * length (s .slots) ≤ length t → s .room ≡ length t → Holds t s
-parts-holds t s h p long room = record { is = spelled-over t s (parts-spelled t s h p) long; long = long; room = room; chained = h }
+pub parts-holds : (t : List ℕ) (s : State) → Chained s → Parts t s → 10 + 8 * length (s .slots) ≤ length t → Holds t s
+parts-holds t s h p long = record { is = spelled-over t s (parts-spelled t s h p) long; long = long; chained = h }
 
 -- ---- a chain, link by link
 

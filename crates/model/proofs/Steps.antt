@@ -48,10 +48,6 @@ module _ (s : State) (slots : List Slot) (l : List Link) where
   rechain-clock ByTicks = refl
   rechain-clock ByDate = refl
 
-  pub rechain-room : (k : Chain) → rechain k s slots l .room ≡ s .room
-  rechain-room ByTicks = refl
-  rechain-room ByDate = refl
-
   pub rechain-own : (k : Chain) → chainOf k (rechain k s slots l) ≡ l
   rechain-own ByTicks = refl
   rechain-own ByDate = refl
@@ -187,9 +183,6 @@ module _ (m : Mode) (s : State) where
   pub length-started : (i amount r u : ℕ) → length (started m s i amount r u .slots) ≡ length (s .slots)
   length-started i amount r u = simp (rechain-slots, length-put)
 
-  pub room-started : (i amount r u : ℕ) → started m s i amount r u .room ≡ s .room
-  room-started i amount r u = simp rechain-room
-
 -- ---- fired, a tick nearer, at another time, laid out
 
 pub reclock-chain : (s : State) (c : Clock) (k : Chain) → chainOf k (reclock s c) ≡ chainOf k s
@@ -199,9 +192,6 @@ reclock-chain s c ByDate = refl
 module _ (k : Chain) (limit : ℕ) (s : State) where
   pub length-fire : length (fire k limit s .slots) ≡ length (s .slots)
   length-fire = simp (rechain-slots, length-firedAll)
-
-  pub room-fire : fire k limit s .room ≡ s .room
-  room-fire = simp rechain-room
 
   -- the timers that are due, and those that are not, are the chain
   due-parts : (j : ℕ) → timesIn (due k limit s) j + timesIn (keep (λ w. ltb limit (w .wait)) (chainOf k s)) j ≡ timesIn (chainOf k s) j
@@ -239,16 +229,16 @@ chained-reclock s c h = record {
   within = λ k. rw (reclock-chain s c k) (h .within k);
 }
 
-module _ (room n t : ℕ) where
-  pub length-laid : length (laidOut room n t .slots) ≡ n
+module _ (n t : ℕ) where
+  pub length-laid : length (laidOut n t .slots) ≡ n
   length-laid = length-replicate n free
 
-  pub laid-chain : (k : Chain) → chainOf k (laidOut room n t) ≡ []
+  pub laid-chain : (k : Chain) → chainOf k (laidOut n t) ≡ []
   laid-chain ByTicks = refl
   laid-chain ByDate = refl
 
-  pub chained-laid : n ≤ 255 → Chained (laidOut room n t)
-  chained-laid few = chained (laidOut room n t) (omega (arith, length-laid)) (λ k. rw (laid-chain k) (empty k))
+  pub chained-laid : n ≤ 255 → Chained (laidOut n t)
+  chained-laid few = chained (laidOut n t) (omega (arith, length-laid)) (λ k. rw (laid-chain k) (empty k))
     where
       empty : (k : Chain) → Ordered k (replicate n free) []
       empty k = record { meets = λ i. rw (blank n i); rises = tt; within = tt }

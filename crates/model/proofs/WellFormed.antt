@@ -57,5 +57,4 @@ pub record WellFormed (s : State) : Type 0 where
 pub record Holds (t : List ℕ) (s : State) : Type 0 where
   pub is : over s t ≡ t
   pub long : 10 + 8 * length (s .slots) ≤ length t
-  pub room : s .room ≡ length t
   pub chained : Chained s

@@ -4,17 +4,16 @@ use Prim.Native.Nat.{ℕ, _+_, _*_, _≤_}
 use mathlib.Core.Bool.{true, false, cond}
 use mathlib.Core.Option.{none, some}
 use mathlib.Core.List.{List, [], _∷_, _++_, map, reverse}
-use lib.ListN.{length}
+use lib.ListN.{length, getD, replicate}
 use lib.Dec.{eqb}
 use Rattle.model.specs.Lists.{keep, count, InOrder}
-use Rattle.model.specs.Calls.{Call, layOut}
-use Rattle.model.specs.Kinds.{Chain, ByTicks, ByDate, kindAt}
-use Rattle.model.specs.State.{Slot, Link, slotAt, listed}
-use Rattle.model.specs.Directives.{effect}
+use Rattle.model.specs.Calls.{Call, layOut, create, reset, lentTo, answerCount}
+use Rattle.model.specs.Kinds.{Chain, ByTicks, ByDate, kindAt, chainFor}
+use Rattle.model.specs.State.{Slot, Link, slotAt, names, listed}
 use Rattle.model.specs.Words.{word, field, first, along, links, read}
 use Rattle.model.specs.Sound.{sound}
-use Rattle.model.specs.Outcome.{outcome, written, refused}
-use Rattle.model.specs.History.{Event, Placed, Waiting, eventOf, eventsOn, perSecond, clockAfter, moves, starts, waits, fires, inChain, left, waiting, entry}
+use Rattle.model.specs.Outcome.{outcome, written}
+use Rattle.model.specs.History.{Start, Event, changes, lastsAfter, Placed, Waiting, eventOf, eventsOn, perSecond, clockAfter, moves, starts, waits, fires, inChain, left, waiting, entry}
 
 -- Each call gets the table that the last one left.
 abbrev pub after : List ℕ → List Call → List ℕ
@@ -55,22 +54,36 @@ pub record Lists (t : List ℕ) (es : List Event) (c : Call) (e : Event) : Type 
   pub dated : List Placed
   pub ticking-order : InOrder left (keep (inChain ByTicks) (keep (fires e) (starts es))) ticking
   pub dated-order : InOrder left (keep (inChain ByDate) (keep (fires e) (starts es))) dated
-  pub entries : outcome t c .list ≡ written (map entry (ticking ++ dated)) (effect (read t) c .lent)
+  pub entries : outcome t c .list ≡ written (map entry (ticking ++ dated)) (lentTo c)
   pub counted : moves e ≡ true → outcome t c .answer ≡ length (ticking ++ dated) ∷ []
   pub quiet : moves e ≡ false → ticking ++ dated ≡ []
   pub few : length (ticking ++ dated) ≤ word t 0
 
--- A refused call changes no word and answers zero.
+-- the first number of an answer
+abbrev pub firstNumber : List ℕ → ℕ
+firstNumber answer = getD answer 0 0
+
+-- What is demanded of the call c, which is the event e where it is accepted, on the table t after these events.
 pub record Answers (t : List ℕ) (es : List Event) (c : Call) (e : Event) : Type 0 where
   pub lists : outcome t c .status ≡ 0 → Lists t es c e
-  pub refuses : (outcome t c .status ≡ 0 → ⊥) → outcome t c ≡ refused (outcome t c .status) t c
+  -- An accepted reset is a start for ticks, of that timer's last start.
+  pub restarts : (id : ℕ) → c ≡ reset id → outcome t c .status ≡ 0
+      → (s : Start) × (e ≡ changes id (some s)) × (s .id ≡ id) × (chainFor (s .mode) ≡ ByTicks)
+  -- An id names a timer as long as it lasts; a create answers one that named none.
+  pub lasts : outcome t c .status ≡ 0 → (id : ℕ)
+      → names (read (outcome t c .table)) id ≡ lastsAfter c (firstNumber (outcome t c .answer)) id (names (read t) id)
+  pub anew : (name : ℕ) → c ≡ create name → outcome t c .status ≡ 0 → names (read t) (firstNumber (outcome t c .answer)) ≡ false
+  -- A refused call changes no word of the table or of the list that it was lent, and answers zero.
+  pub refuses : (outcome t c .status ≡ 0 → ⊥)
+      → (outcome t c .table ≡ t) × (outcome t c .list ≡ lentTo c) × (outcome t c .answer ≡ replicate (answerCount c) 0)
 
 -- what the accepted calls of a list mean, the latest first
 abbrev pub eventsAfter : List ℕ → List Call → List Event
 eventsAfter w cs = eventsOn [] (acceptedIn w cs)
 
--- What is demanded of the whole list cs after a lay out for n and t of the slice w: after every prefix, and in every call.
+-- What is demanded of the whole list cs after a lay out for n and t of the slice w: after every prefix, and in every call. It begins with no timer.
 pub record Demanded (w : List ℕ) (n t : ℕ) (cs : List Call) : Type 0 where
+  pub empty : (id : ℕ) → names (read (after w (layOut n t ∷ []))) id ≡ false
   pub standing : (xs ys : List Call) → xs ++ ys ≡ cs → Standing (after w (layOut n t ∷ xs)) (eventsAfter w (layOut n t ∷ xs))
   pub answers : (xs ys : List Call) (c : Call) → xs ++ (c ∷ ys) ≡ cs →
       Answers (after w (layOut n t ∷ xs)) (eventsAfter w (layOut n t ∷ xs)) c (eventOf (eventsAfter w (layOut n t ∷ xs)) c)

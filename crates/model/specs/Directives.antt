@@ -1,4 +1,5 @@
--- Document 01, "Status numbers" and "What each call does", the calls in its order. Assumes nothing: these are definitions.
+-- Document 01, "Status numbers" and "What each call does": for each call, in its order, when it is refused and what it does.
+-- Assumes nothing: these are definitions.
 use Prim.Native.Nat.{ℕ, suc, _+_, _-_, _*_}
 use mathlib.Core.Bool.{Bool, true, false, cond, not, _&&_}
 use mathlib.Core.List.{List, [], _∷_, _++_, map}
@@ -10,9 +11,10 @@ use Rattle.model.specs.Lists.{keep, place}
 use Rattle.model.specs.Status.{Refusal, when, InvalidName, InvalidId, TooMany, InvalidSize, InvalidAddress, InvalidNumber, NotDefined, InvalidClock, NotSound, ListTooShort}
 use Rattle.model.specs.Calls.{Call, layOut, create, ident, cancel, delete, fireAfter, fireWhen, reset, ticksLeft, tick, setClock, getClock}
 use Rattle.model.specs.Kinds.{Chain, ByTicks, ByDate, Mode, After, When, kindAt, chainFor, waitingKind, lastByTicks, lastMode}
+use Rattle.model.specs.Sound.{sound}
 use Rattle.model.specs.State.{Slot, Link, Clock, State, chainOf, rechain, reclock, free, slotAt, putAt, lowest, without, waitAt, idBase, indexOf, names}
 
--- ---- when a call is refused, in the order of the rules
+-- ---- what the rules test
 
 -- the lowest free slot; the lowest slot with that name, which is not 0: a slot is 0 where there is none
 abbrev pub lowestFree : State → ℕ
@@ -28,36 +30,24 @@ isShort s list = ltb (length list) (3 * length (s .slots))
 abbrev pub notAhead : State → WallTime → Bool
 notAhead s w = not (valid w && ltb (s .clock .second) (secondsOf w))
 
--- The table of status numbers, read by call: 100, 101, then fire after 10, 9, 4; fire when 11, 9, 20, 4; create 3, 5; reset 4, 11; lay out 10, 8.
--- `unsound` says that the table is not sound.
-abbrev pub refusals : Bool → State → Call → List Refusal
-refusals unsound s (layOut n t) =
-    when InvalidNumber (not (allOf (leb 1 n ∷ leb n 255 ∷ leb 1 t ∷ leb t 1000 ∷ []))) ∷ when InvalidSize (ltb (s .room) (10 + 8 * n)) ∷ []
-refusals unsound s (create name) = when NotSound unsound ∷ when InvalidName (eqb name 0) ∷ when TooMany (eqb (lowestFree s) 0) ∷ []
-refusals unsound s (ident name) = when NotSound unsound ∷ when InvalidName (eqb name 0) ∷ when InvalidName (eqb (lowestNamed s name) 0) ∷ []
-refusals unsound s (cancel id) = when NotSound unsound ∷ when InvalidId (not (names s id)) ∷ []
-refusals unsound s (delete id) = when NotSound unsound ∷ when InvalidId (not (names s id)) ∷ []
-refusals unsound s (fireAfter id n r u) =
-    when NotSound unsound ∷ when InvalidNumber (eqb n 0) ∷ when InvalidAddress (eqb r 0) ∷ when InvalidId (not (names s id)) ∷ []
-refusals unsound s (fireWhen id w r u) =
-    when NotSound unsound ∷ when NotDefined (not (s .clock .isSet)) ∷ when InvalidAddress (eqb r 0)
-    ∷ when InvalidClock (notAhead s w) ∷ when InvalidId (not (names s id)) ∷ []
-refusals unsound s (reset id) =
-    when NotSound unsound ∷ when InvalidId (not (names s id))
-    ∷ when NotDefined (not (lastByTicks (slotAt (s .slots) (indexOf id) .kind))) ∷ []
-refusals unsound s (ticksLeft id) = when NotSound unsound ∷ when InvalidId (not (names s id)) ∷ []
-refusals unsound s (tick list) = when NotSound unsound ∷ when ListTooShort (isShort s list) ∷ []
-refusals unsound s (setClock w list) =
-    when NotSound unsound ∷ when ListTooShort (isShort s list) ∷ when InvalidClock (not (valid w)) ∷ []
-refusals unsound s getClock = when NotSound unsound ∷ when NotDefined (not (s .clock .isSet)) ∷ []
+-- N is 1 to 255 and T 1 to 1,000
+abbrev pub limits : ℕ → ℕ → List Bool
+limits n t = leb 1 n ∷ leb n 255 ∷ leb 1 t ∷ leb t 1000 ∷ []
+
+-- Any call but lay out: table not sound. The id names no timer.
+abbrev pub unsound : List ℕ → Refusal
+unsound t = when NotSound (not (sound t))
+
+abbrev pub nameless : State → ℕ → Refusal
+nameless s id = when InvalidId (not (names s id))
 
 -- ---- the parts of the calls' work
 
 -- Lay out: header as given, clock not set, all slots free.
-abbrev pub laidOut : ℕ → ℕ → ℕ → State
-laidOut room n t =
+abbrev pub laidOut : ℕ → ℕ → State
+laidOut n t =
     let clock : Clock = record { perSecond = t; isSet = false; second = 0; ticksInto = 0 } in
-    record { room = room; slots = replicate n free; clock = clock; ticking = []; dated = [] }
+    record { slots = replicate n free; clock = clock; ticking = []; dated = [] }
 
 -- slot i, in no chain, becomes x
 abbrev pub stored : State → ℕ → Slot → State
@@ -135,56 +125,114 @@ clockStep c =
     (cond (ltb (c .second) lastSecond) (clockAt c (suc (c .second)) 0) c))
     c
 
--- ---- what each call does where it is accepted: the state it leaves, its answer, the timers that fire, in order, and the list it was lent
+-- ---- what each call does where it is accepted: the state it leaves, its answer, and the timers that fire, in order
 
 pub record Effect : Type 0 where
   pub state : State
   pub answer : List ℕ
   pub fired : List Link
-  pub lent : List ℕ
 
 -- a call that fires nothing, with its answer. Calls with no answer named in document 01 answer 0.
 abbrev pub leaves : State → ℕ → Effect
-leaves s n = record { state = s; answer = n ∷ []; fired = []; lent = [] }
+leaves s n = record { state = s; answer = n ∷ []; fired = [] }
 
 -- The answer is the count.
-abbrev pub firing : State → List Link → List ℕ → Effect
-firing s links list = record { state = s; answer = length links ∷ []; fired = links; lent = list }
+abbrev pub firing : State → List Link → Effect
+firing s links = record { state = s; answer = length links ∷ []; fired = links }
 
 -- Those at zero fire in chain order; then, at the clock's new second, dated timers. Where the second did not go up none are due, since
 -- all dates are above it.
-abbrev pub ticked : State → List ℕ → Effect
-ticked s list =
+abbrev pub ticked : State → Effect
+ticked s =
     let near = nearer s in
     let clock = clockStep (s .clock) in
     let later = reclock (fire ByTicks 0 near) clock in
-    firing (fire ByDate (clock .second) later) (due ByTicks 0 near ++ due ByDate (clock .second) later) list
+    firing (fire ByDate (clock .second) later) (due ByTicks 0 near ++ due ByDate (clock .second) later)
 
 -- Set clock: seconds as given, word 4 to 0, clock set. Dated timers at or before the new second fire now. Interval timers don't change. A clock
 -- set back moves no date.
-abbrev pub clockMoved : State → ℕ → List ℕ → Effect
-clockMoved s second list =
-    let now = reclock s (clockAt (s .clock) second 0) in firing (fire ByDate second now) (due ByDate second now) list
+abbrev pub clockMoved : State → ℕ → Effect
+clockMoved s second =
+    let now = reclock s (clockAt (s .clock) second 0) in firing (fire ByDate second now) (due ByDate second now)
 
 -- Get clock gives the date and, in ticks, word 4.
 abbrev pub numbers : WallTime → ℕ → List ℕ
 numbers w ticks = w .year ∷ w .month ∷ w .day ∷ w .hour ∷ w .minute ∷ w .second ∷ ticks ∷ []
 
--- Create answers the id of the lowest free slot, which becomes kind 1; ident that of the lowest slot with the name. Delete: cancelled if waiting,
--- then the slot is free and all zero. Reset: start again with the stored interval, routine and data, as fire after would. Ticks left: 0 for any kind
--- but 4, which alone is in the interval chain.
+abbrev pub reading : State → Effect
+reading s = record { state = s; answer = numbers (dateOf (s .clock .second)) (s .clock .ticksInto); fired = [] }
+
+-- ---- the calls
+
+-- A call: its rules, in their order, from the words of the table and the state that they hold; and what it does where none applies.
+pub record Directive : Type 0 where
+  pub rules : List ℕ → State → List Refusal
+  pub does : State → Effect
+
+abbrev pub directive : Call → Directive
+-- 10, 8
+directive (layOut n t) = record {
+  rules = λ w s. when InvalidNumber (not (allOf (limits n t))) ∷ when InvalidSize (ltb (length w) (10 + 8 * n)) ∷ [];
+  does = λ s. leaves (laidOut n t) 0;
+}
+-- Answers the id of the lowest free slot, which becomes kind 1. 3, 5
+directive (create name) = record {
+  rules = λ w s. unsound w ∷ when InvalidName (eqb name 0) ∷ when TooMany (eqb (lowestFree s) 0) ∷ [];
+  does = λ s. leaves (stored s (lowestFree s) (unused name)) (idBase + lowestFree s);
+}
+-- Id of the lowest slot with that name. 3
+directive (ident name) = record {
+  rules = λ w s. unsound w ∷ when InvalidName (eqb name 0) ∷ when InvalidName (eqb (lowestNamed s name) 0) ∷ [];
+  does = λ s. leaves s (idBase + lowestNamed s name);
+}
+directive (cancel id) = record {
+  rules = λ w s. unsound w ∷ nameless s id ∷ [];
+  does = λ s. leaves (stopped s (indexOf id) (idled (slotAt (s .slots) (indexOf id)))) 0;
+}
+-- Cancelled if waiting, then the slot is free and all zero.
+directive (delete id) = record {
+  rules = λ w s. unsound w ∷ nameless s id ∷ [];
+  does = λ s. leaves (stopped s (indexOf id) free) 0;
+}
+-- 10, 9, 4
+directive (fireAfter id n r u) = record {
+  rules = λ w s. unsound w ∷ when InvalidNumber (eqb n 0) ∷ when InvalidAddress (eqb r 0) ∷ nameless s id ∷ [];
+  does = λ s. leaves (started After s (indexOf id) n r u) 0;
+}
+-- 11, 9, 20, 4
+directive (fireWhen id d r u) = record {
+  rules = λ w s. unsound w ∷ when NotDefined (not (s .clock .isSet)) ∷ when InvalidAddress (eqb r 0) ∷ when InvalidClock (notAhead s d)
+      ∷ nameless s id ∷ [];
+  does = λ s. leaves (started When s (indexOf id) (secondsOf d) r u) 0;
+}
+-- Start again with the stored interval, routine and data, as fire after would. 4, 11
+directive (reset id) = record {
+  rules = λ w s. unsound w ∷ nameless s id ∷ when NotDefined (not (lastByTicks (slotAt (s .slots) (indexOf id) .kind))) ∷ [];
+  does = λ s.
+      let x = slotAt (s .slots) (indexOf id) in
+      leaves (started (lastMode (x .kind)) s (indexOf id) (x .interval) (x .routine) (x .userData)) 0;
+}
+-- For kind 4, which alone is in the interval chain; for any other kind 0.
+directive (ticksLeft id) = record {
+  rules = λ w s. unsound w ∷ nameless s id ∷ [];
+  does = λ s. leaves s (waitAt (indexOf id) (s .ticking));
+}
+directive (tick list) = record {
+  rules = λ w s. unsound w ∷ when ListTooShort (isShort s list) ∷ [];
+  does = λ s. ticked s;
+}
+directive (setClock d list) = record {
+  rules = λ w s. unsound w ∷ when ListTooShort (isShort s list) ∷ when InvalidClock (not (valid d)) ∷ [];
+  does = λ s. clockMoved s (secondsOf d);
+}
+directive getClock = record {
+  rules = λ w s. unsound w ∷ when NotDefined (not (s .clock .isSet)) ∷ [];
+  does = λ s. reading s;
+}
+
+-- a call's rules, and what it does
+abbrev pub refusals : List ℕ → State → Call → List Refusal
+refusals w s c = directive c .rules w s
+
 abbrev pub effect : State → Call → Effect
-effect s (layOut n t) = leaves (laidOut (s .room) n t) 0
-effect s (create name) = leaves (stored s (lowestFree s) (unused name)) (idBase + lowestFree s)
-effect s (ident name) = leaves s (idBase + lowestNamed s name)
-effect s (cancel id) = leaves (stopped s (indexOf id) (idled (slotAt (s .slots) (indexOf id)))) 0
-effect s (delete id) = leaves (stopped s (indexOf id) free) 0
-effect s (fireAfter id n r u) = leaves (started After s (indexOf id) n r u) 0
-effect s (fireWhen id w r u) = leaves (started When s (indexOf id) (secondsOf w) r u) 0
-effect s (reset id) =
-    let x = slotAt (s .slots) (indexOf id) in
-    leaves (started (lastMode (x .kind)) s (indexOf id) (x .interval) (x .routine) (x .userData)) 0
-effect s (ticksLeft id) = leaves s (waitAt (indexOf id) (s .ticking))
-effect s (tick list) = ticked s list
-effect s (setClock w list) = clockMoved s (secondsOf w) list
-effect s getClock = record { state = s; answer = numbers (dateOf (s .clock .second)) (s .clock .ticksInto); fired = []; lent = [] }
+effect s c = directive c .does s

@@ -23,10 +23,12 @@ pub record Start : Type 0 where
 abbrev pub startOf : ℕ → Mode → ℕ → ℕ → ℕ → Start
 startOf id mode amount routine userData = record { id = id; mode = mode; amount = amount; routine = routine; userData = userData }
 
--- what an accepted call is to the timers: a start, or the end of one, of the timer `id`; `nothing` where it only looks, or creates
+-- what an accepted call is to the timers: a start, or the end of one, of the timer `id`; the end of the timer itself; `nothing` where it only
+-- looks, or creates
 pub data Event : Type 0 where
   laidOutFor : ℕ → Event
   changes : ℕ → Option Start → Event
+  deletes : ℕ → Event
   oneTick : Event
   clockSetTo : ℕ → Event
   nothing : Event
@@ -35,19 +37,24 @@ pub data Event : Type 0 where
 abbrev pub startIn : Event → Option Start
 startIn (laidOutFor t) = none
 startIn (changes id s) = s
+startIn (deletes id) = none
 startIn oneTick = none
 startIn (clockSetTo d) = none
 startIn nothing = none
 
--- A reset takes its ticks, routine and data from that timer's last start before it: the last one under its id, since a timer with no start
--- since its create is not reset (11).
+-- A reset takes its ticks, routine and data from that timer's last start before it. A timer lasts from its create to its delete or a lay out.
 abbrev pub newer : ℕ → Option Start → Option Start → Option Start
 newer id none older = older
 newer id (some s) older = cond (eqb (s .id) id) (some s) older
 
 abbrev pub lastStart : ℕ → List Event → Option Start
 lastStart id [] = none
-lastStart id (e ∷ before) = newer id (startIn e) (lastStart id before)
+lastStart id (laidOutFor t ∷ before) = none
+lastStart id (changes i s ∷ before) = newer id s (lastStart id before)
+lastStart id (deletes i ∷ before) = cond (eqb i id) none (lastStart id before)
+lastStart id (oneTick ∷ before) = lastStart id before
+lastStart id (clockSetTo d ∷ before) = lastStart id before
+lastStart id (nothing ∷ before) = lastStart id before
 
 -- A start is an accepted fire after, fire when or reset.
 abbrev pub eventOf : List Event → Call → Event
@@ -55,7 +62,7 @@ eventOf before (layOut n t) = laidOutFor t
 eventOf before (create name) = nothing
 eventOf before (ident name) = nothing
 eventOf before (cancel id) = changes id none
-eventOf before (delete id) = changes id none
+eventOf before (delete id) = deletes id
 eventOf before (fireAfter id n r u) = changes id (some (startOf id After n r u))
 eventOf before (fireWhen id w r u) = changes id (some (startOf id When (secondsOf w) r u))
 eventOf before (reset id) = changes id (lastStart id before)
@@ -69,12 +76,29 @@ abbrev pub eventsOn : List Event → List Call → List Event
 eventsOn before [] = before
 eventsOn before (c ∷ cs) = eventsOn (eventOf before c ∷ before) cs
 
+-- A timer lasts from its create to its delete or a lay out, each accepted: whether the one with this id does after a call with this answer, where
+-- it did before it or not.
+abbrev pub lastsAfter : Call → ℕ → ℕ → Bool → Bool
+lastsAfter (layOut n t) answer id before = false
+lastsAfter (create name) answer id before = eqb answer id || before
+lastsAfter (ident name) answer id before = before
+lastsAfter (cancel i) answer id before = before
+lastsAfter (delete i) answer id before = not (eqb i id) && before
+lastsAfter (fireAfter i n r u) answer id before = before
+lastsAfter (fireWhen i w r u) answer id before = before
+lastsAfter (reset i) answer id before = before
+lastsAfter (ticksLeft i) answer id before = before
+lastsAfter (tick list) answer id before = before
+lastsAfter (setClock w list) answer id before = before
+lastsAfter getClock answer id before = before
+
 -- ---- the clock
 
 -- an accepted tick, and how many there are
 abbrev pub isTick : Event → Bool
 isTick (laidOutFor t) = false
 isTick (changes i s) = false
+isTick (deletes i) = false
 isTick oneTick = true
 isTick (clockSetTo d) = false
 isTick nothing = false
@@ -87,6 +111,7 @@ abbrev pub perSecond : List Event → ℕ
 perSecond [] = 0
 perSecond (laidOutFor t ∷ before) = t
 perSecond (changes i s ∷ before) = perSecond before
+perSecond (deletes i ∷ before) = perSecond before
 perSecond (oneTick ∷ before) = perSecond before
 perSecond (clockSetTo d ∷ before) = perSecond before
 perSecond (nothing ∷ before) = perSecond before
@@ -97,6 +122,7 @@ abbrev pub clockAfter : ℕ → List Event → Option ℕ
 clockAfter since [] = none
 clockAfter since (laidOutFor t ∷ before) = none
 clockAfter since (changes i s ∷ before) = clockAfter since before
+clockAfter since (deletes i ∷ before) = clockAfter since before
 clockAfter since (oneTick ∷ before) = clockAfter (suc since) before
 clockAfter since (clockSetTo d ∷ before) = some (min (d * perSecond before + since) (suc lastSecond * perSecond before - 1))
 clockAfter since (nothing ∷ before) = clockAfter since before
@@ -113,6 +139,7 @@ past date before = atLeast (date * perSecond before) (clockAfter 0 before)
 abbrev pub moves : Event → Bool
 moves (laidOutFor t) = false
 moves (changes i s) = false
+moves (deletes i) = false
 moves oneTick = true
 moves (clockSetTo d) = true
 moves nothing = false
@@ -142,6 +169,7 @@ starts (e ∷ before) = map (also e) (starts before) ++ placed (startIn e) (e �
 abbrev pub ends : ℕ → Event → Bool
 ends id (laidOutFor t) = true
 ends id (changes i s) = eqb i id
+ends id (deletes i) = eqb i id
 ends id oneTick = false
 ends id (clockSetTo d) = false
 ends id nothing = false

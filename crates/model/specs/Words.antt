@@ -108,4 +108,4 @@ slotsFrom t i (suc n) = slotFrom t i ∷ slotsFrom t (suc i) n
 abbrev pub read : List ℕ → State
 read t =
     let clock : Clock = record { perSecond = word t 1; isSet = eqb (word t 2) 1; second = word t 3; ticksInto = word t 4 } in
-    record { room = length t; slots = slotsFrom t 1 (word t 0); clock = clock; ticking = links ByTicks t; dated = links ByDate t }
+    record { slots = slotsFrom t 1 (word t 0); clock = clock; ticking = links ByTicks t; dated = links ByDate t }
