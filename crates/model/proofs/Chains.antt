@@ -11,6 +11,7 @@ use Rattle.model.specs.Lists.{All}
 use Rattle.model.specs.Kinds.{Chain, ByTicks, ByDate, kindAt, sameChain, waitsIn}
 use Rattle.model.specs.State.{Link, State, chainOf, slotAt, without}
 use Rattle.model.specs.Directives.{closer}
+use Rattle.model.specs.Words.{sumOf}
 use Rattle.model.proofs.ListLaws.{cases, all-map, all-append, all-keep, all-passed, all-zip, count-append, count-keep}
 use Rattle.model.proofs.KindLaws.{one-chain}
 use Rattle.model.proofs.Slots.{in-range}
@@ -96,8 +97,8 @@ module _ (s : State) (h : Chained s) where
   pub once : (k : Chain) (i : ℕ) → timesIn (chainOf k s) i ≤ 1
   once k i = omega (arith, h .meets k i, once-only (waitsIn k (slotAt (s .slots) i .kind)))
 
-  pub once-both : (i : ℕ) → timesIn (s .ticking) i + timesIn (s .dated) i ≤ 1
-  once-both i = once-apart ByTicks ByDate refl i
+  pub once-all : (i : ℕ) → sumOf (λ _ c. timesIn c i) s ≤ 1
+  once-all i = once-apart ByTicks ByDate refl i
 
   pub met-in-range : (k : Chain) (i : ℕ) → 0 < timesIn (chainOf k s) i → (0 < i) × (i ≤ length (s .slots))
   met-in-range k i p = in-range (s .slots) i (in-not-free k (slotAt (s .slots) i .kind) (omega (arith, p, h .meets k i)))
@@ -115,5 +116,5 @@ module _ (s : State) (h : Chained s) where
     length-append (s .ticking) (s .dated),
     no-more-than-slots (length (s .slots)) (s .ticking ++ s .dated)
         (all-append (InSlots (length (s .slots))) (s .ticking) (s .dated) (in-slots ByTicks) (in-slots ByDate))
-        (λ i. omega (arith, count-append (λ w. eqb (w .slot) i) (s .ticking) (s .dated), once-both i)),
+        (λ i. omega (arith, count-append (λ w. eqb (w .slot) i) (s .ticking) (s .dated), once-all i)),
   )

@@ -21,7 +21,7 @@ use Rattle.model.specs.History.{Start, Event, laidOutFor, changes, event
 use Rattle.model.specs.Demand.{after, acceptedIn, shown, Standing, Lists, Answers, eventsAfter, Demand3}
 use Rattle.model.proofs.ListLaws.{cases}
 use Rattle.model.proofs.Order.{order, order-in-order}
-use Rattle.model.proofs.Chains.{once-both}
+use Rattle.model.proofs.Chains.{once-all}
 use Rattle.model.proofs.ReadBack.{slots-length, by-previous}
 use Rattle.model.proofs.SoundHolds.{sound-holds, sound-well-formed}
 use Rattle.model.proofs.Kept.{bound}
@@ -47,7 +47,7 @@ module _ (t : List ℕ) (h : List Event) (g : SoundAndAgreeing t h) where
         is-sound = g .is-sound;
         by-next = λ k. (order left (waitingIn k h), order-in-order left (waitingIn k h), each k ∙ sym (shown-order (waitingIn k h)));
         by-previous = back;
-        once = once-both (read t) (hold .chained);
+        once = once-all (read t) (hold .chained);
         rate = g .agrees .per;
         clock = g .agrees .clock;
       }

@@ -1,5 +1,5 @@
 -- The words of a table that holds a state, word by word and then by parts: header, slots, chains, slots in no chain. A slot is in one of the
--- chains at most, so that of the two numbers which its words add up one is 0. Assumes nothing.
+-- chains at most, so that of the numbers which its words add up all but one are 0. Assumes nothing.
 use mathlib.Core.Path.{_≡_, refl, sym, ap, _∙_, subst}
 use mathlib.Core.Logic.{_≢_}
 use Prim.Native.Nat.{ℕ, zero, suc, _+_, _-_, _*_, _/_, _%_, _≤_, _<_}
@@ -12,11 +12,11 @@ use lib.Dec.{ltb, eqb}
 use borrow.Author.Tests.{ltb-true, ltb-false, eqb-true, eqb-false, eq-eqb}
 use Rattle.model.specs.Kinds.{Chain, ByTicks, ByDate}
 use Rattle.model.specs.State.{Slot, Link, State, chainOf, free, slotAt}
-use Rattle.model.specs.Words.{first, difference, nextIn, previousIn, waitIn, slotWords, allSlots, write, over, word, field, headWord, total, slotFrom}
+use Rattle.model.specs.Words.{first, difference, nextIn, previousIn, waitIn, sumOf, slotWords, allSlots, write, over, word, field, headWord, total, slotFrom}
 use Rattle.model.proofs.ListLaws.{cases}
 use Rattle.model.proofs.Each.{end, _&_, each-at}
 use Rattle.model.proofs.WellFormed.{timesIn, Chained, Holds}
-use Rattle.model.proofs.Chains.{times-own, once-both, once, met-in-range}
+use Rattle.model.proofs.Chains.{times-own, once-all, once, met-in-range}
 
 -- ---- what a state writes
 
@@ -190,17 +190,20 @@ nextOf = record { of = λ _. nextIn; none = λ _. none-next }
 abbrev previousOf : Reading
 previousOf = record { of = λ _. previousIn 0; none = λ _. none-previous 0 }
 
--- the numbers of the slot i in both chains, added
+-- the numbers of the slot i in the chains, added
 module _ (s : State) (h : Chained s) (r : Reading) (i : ℕ) where
-  sum-in : (k : Chain) → 0 < timesIn (chainOf k s) i → r .of ByTicks (s .ticking) i + r .of ByDate (s .dated) i ≡ r .of k (chainOf k s) i
-  sum-in ByTicks m = omega (arith, r .none ByDate (s .dated) i (omega (arith, m, once-both s h i)))
-  sum-in ByDate m = omega (arith, r .none ByTicks (s .ticking) i (omega (arith, m, once-both s h i)))
+  abbrev sum : ℕ
+  sum = sumOf (λ k c. r .of k c i) s
 
-  sum-none : ((k : Chain) → timesIn (chainOf k s) i ≡ 0) → r .of ByTicks (s .ticking) i + r .of ByDate (s .dated) i ≡ 0
+  sum-in : (k : Chain) → 0 < timesIn (chainOf k s) i → sum ≡ r .of k (chainOf k s) i
+  sum-in ByTicks m = omega (arith, r .none ByDate (s .dated) i (omega (arith, m, once-all s h i)))
+  sum-in ByDate m = omega (arith, r .none ByTicks (s .ticking) i (omega (arith, m, once-all s h i)))
+
+  sum-none : ((k : Chain) → timesIn (chainOf k s) i ≡ 0) → sum ≡ 0
   sum-none z = omega (arith, r .none ByTicks (s .ticking) i (z ByTicks), r .none ByDate (s .dated) i (z ByDate))
 
   sum-is : (n : ℕ) → ((k : Chain) → 0 < timesIn (chainOf k s) i → n ≡ r .of k (chainOf k s) i)
-      → (((k : Chain) → timesIn (chainOf k s) i ≡ 0) → n ≡ 0) → n ≡ r .of ByTicks (s .ticking) i + r .of ByDate (s .dated) i
+      → (((k : Chain) → timesIn (chainOf k s) i ≡ 0) → n ≡ 0) → n ≡ sumOf (λ k c. r .of k c i) s
   sum-is n f g = by-chain s i (λ k m. f k m ∙ sym (sum-in k m)) (λ z. g z ∙ sym (sum-none z))
 
 module _ (t : List ℕ) (s : State) (h : Chained s) where

@@ -10,7 +10,7 @@ use Rattle.model.specs.Lists.{keep, count, InOrder}
 use Rattle.model.specs.Calls.{Call, layOut, create, reset, lentTo, answerCount}
 use Rattle.model.specs.Kinds.{Chain, ByTicks, ByDate, kindAt, chainFor}
 use Rattle.model.specs.State.{Slot, Link, slotAt, names, listed}
-use Rattle.model.specs.Words.{word, field, first, along, links, read}
+use Rattle.model.specs.Words.{first, sumOf, word, field, along, links, read}
 use Rattle.model.specs.Sound.{sound}
 use Rattle.model.specs.Outcome.{outcome, written}
 use Rattle.model.specs.History.{Start, Event, changes, lastsAfter, Placed, Waiting, eventOf, eventsOn, perSecond, clockAfter, moves, starts, waits, fires, inChain, left, waiting, entry}
@@ -41,7 +41,7 @@ pub record Standing (t : List ℕ) (es : List Event) : Type 0 where
   -- The same in reverse by previous from its last slot.
   pub by-previous : (k : Chain) → along (field t 7) (word t 0) (first (reverse (links k t))) ≡ map (λ w. w .slot) (reverse (links k t))
   -- Each waiting timer stands there once.
-  pub once : (i : ℕ) → count (λ w. eqb (w .slot) i) (links ByTicks t) + count (λ w. eqb (w .slot) i) (links ByDate t) ≤ 1
+  pub once : (i : ℕ) → sumOf (λ _ c. count (λ w. eqb (w .slot) i) c) (read t) ≤ 1
   -- The table's T and its clock, counted in ticks, are those of the events; it is unset where theirs is.
   pub rate : perSecond es ≡ word t 1
   pub clock : clockAfter 0 es ≡ cond (eqb (word t 2) 1) (some (word t 3 * word t 1 + word t 4)) none

@@ -39,11 +39,14 @@ abbrev pub waitIn : Chain → ℕ → List Link → ℕ → ℕ
 waitIn k b [] i = 0
 waitIn k b (w ∷ ws) i = cond (eqb (w .slot) i) (difference k b (w .wait)) (waitIn k (w .wait) ws i)
 
--- a slot is in one of the chains at most, so that one of each two numbers is 0
+-- a number that each chain gives to a slot, added: a slot is in one of the chains at most, so that all but one are 0
+abbrev pub sumOf : (Chain → List Link → ℕ) → State → ℕ
+sumOf f s = f ByTicks (s .ticking) + f ByDate (s .dated)
+
 abbrev pub slotWords : State → ℕ → Slot → List ℕ → List ℕ
 slotWords s i x rest =
-    x .kind ∷ x .name ∷ x .interval ∷ (waitIn ByTicks 0 (s .ticking) i + waitIn ByDate 0 (s .dated) i) ∷ x .routine ∷ x .userData
-    ∷ (nextIn (s .ticking) i + nextIn (s .dated) i) ∷ (previousIn 0 (s .ticking) i + previousIn 0 (s .dated) i) ∷ rest
+    x .kind ∷ x .name ∷ x .interval ∷ sumOf (λ k c. waitIn k 0 c i) s ∷ x .routine ∷ x .userData
+    ∷ sumOf (λ k c. nextIn c i) s ∷ sumOf (λ k c. previousIn 0 c i) s ∷ rest
 
 abbrev pub allSlots : State → ℕ → List Slot → List ℕ → List ℕ
 allSlots s i [] rest = rest
