@@ -1,35 +1,47 @@
--- Laws of the kinds, each read off the table of kinds entry by entry; of the modes of starts; and of the chains, told apart. Assumes nothing.
+-- Laws of the kinds, each computed over the whole table of kinds; of the modes of starts; and of the chains, told apart. Assumes nothing.
 use mathlib.Core.Path.{_≡_, refl, sym, ap, _∙_, subst}
 use Prim.Native.Nat.{ℕ, zero, suc, _+_, _≤_, _<_}
 use native.Mathlib.Omega.{arith}
 use mathlib.Core.Bool.{Bool, true, false, cond}
 use mathlib.Core.Option.{Option, none, some}
-use mathlib.Core.List.{List}
+use mathlib.Core.List.{List, [], _∷_}
 use lib.ListN.{length, getD, List·getD-eq-default}
-use lib.Dec.{ltb, eqb}
-use borrow.Author.Tests.{ltb-true, ltb-false}
+use lib.Dec.{leb, ltb, eqb}
+use borrow.Author.Tests.{leb-true, le-leb, lt-leb, ltb-true, ltb-false, eqb-true}
+use Rattle.calendar.specs.Calendar.{allOf}
 use Rattle.model.specs.Kinds.{Chain, ByTicks, ByDate, Mode, After, When, Kind, is, kinds, kindAt, chainFor, waitingKind, sameChain, isIn, waitsIn, isSome, byTicks, lastByTicks, orAfter}
-use Rattle.model.proofs.ListLaws.{cases, clash}
-use Rattle.model.proofs.Each.{Each, end, _&_, each-at}
+use Rattle.model.proofs.ListLaws.{cases, clash, all-at}
 
--- what holds of every kind of the table; and of any number, where it holds of those that are no kind
-pub kind-law : (P : ℕ → Kind → Type 0) → Each P 0 kinds → (n : ℕ) → n < length kinds → P n (kindAt n)
-kind-law P h n p = each-at P (is none n n none) kinds h n p
+-- what a reading of kinds gives for each kind of a table
+abbrev readAll : {B : Type 0} → (ℕ → Kind → B) → ℕ → List Kind → List B
+readAll f n [] = []
+readAll f n (x ∷ xs) = f n x ∷ readAll f (suc n) xs
+
+read-at : {B : Type 0} (f : ℕ → Kind → B) (b : ℕ) (xs : List Kind) (d : B) (x : Kind) (j m : ℕ) → b + j ≡ m → j < length xs
+    → getD (readAll f b xs) j d ≡ f m (getD xs j x)
+read-at f b [] d x j m is p = absurd (omega arith)
+read-at f b (y ∷ ys) d x zero m is p = let e : b ≡ m = omega arith in ap (λ (n : ℕ). f n y) e
+read-at f b (y ∷ ys) d x (suc j) m is p = read-at f (suc b) ys d x j m (omega arith) (omega arith)
+
+-- Two readings that agree on the table of kinds, which the checker computes, agree on every kind; and on any number, where they agree on those
+-- that are no kind.
+pub on-kinds : {B : Type 0} (f g : ℕ → Kind → B) → readAll f 0 kinds ≡ readAll g 0 kinds → (n : ℕ) → n < length kinds → f n (kindAt n) ≡ g n (kindAt n)
+on-kinds f g same n p =
+    let d = f n (kindAt n) in
+    let x = is none n n none in
+    sym (read-at f 0 kinds d x n n (omega arith) p) ∙ ap (λ l. getD l n d) same ∙ read-at g 0 kinds d x n n (omega arith) p
 
 no-kind : (n : ℕ) → length kinds ≤ n → kindAt n ≡ is none n n none
 no-kind n p = List·getD-eq-default kinds (is none n n none) {n = n} p
 
-pub any-kind : (P : Kind → Type 0) → Each (λ _. P) 0 kinds → ((n : ℕ) → kindAt n ≡ is none n n none → P (is none n n none)) → (n : ℕ) → P (kindAt n)
-any-kind P h d n =
+pub on-numbers : {B : Type 0} (f g : ℕ → Kind → B) → readAll f 0 kinds ≡ readAll g 0 kinds
+    → ((n : ℕ) → kindAt n ≡ is none n n none → f n (is none n n none) ≡ g n (is none n n none)) → (n : ℕ) → f n (kindAt n) ≡ g n (kindAt n)
+on-numbers f g same other n =
     cases (ltb n (length kinds))
-    (λ e. kind-law (λ _. P) h n (ltb-true n (length kinds) e))
-    (λ e. let is-none = no-kind n (ltb-false n (length kinds) e) in subst P (sym is-none) (d n is-none))
-
-pub number-law : (P : ℕ → Kind → Type 0) → Each P 0 kinds → ((n : ℕ) → P n (is none n n none)) → (n : ℕ) → P n (kindAt n)
-number-law P h d n =
-    cases (ltb n (length kinds))
-    (λ e. kind-law P h n (ltb-true n (length kinds) e))
-    (λ e. subst (P n) (sym (no-kind n (ltb-false n (length kinds) e))) (d n))
+    (λ e. on-kinds f g same n (ltb-true n (length kinds) e))
+    (λ e.
+    let is-none = no-kind n (ltb-false n (length kinds) e) in
+    subst (λ (x : Kind). f n x ≡ g n x) (sym is-none) (other n is-none))
 
 -- ---- chains
 
@@ -73,32 +85,32 @@ in-none (some j) k e = clash e
 -- ---- kinds
 
 pub stopped-not-in : (k : Chain) (n : ℕ) → waitsIn k (kindAt n .stopped) ≡ false
-stopped-not-in k = any-kind (λ x. waitsIn k (x .stopped) ≡ false) (refl & refl & refl & refl & refl & refl & end) (λ n e. ap (λ (x : Kind). isIn k (x .chain)) e)
+stopped-not-in ByTicks = on-numbers (λ _ x. waitsIn ByTicks (x .stopped)) (λ _ _. false) refl (λ n e. ap (λ (x : Kind). isIn ByTicks (x .chain)) e)
+stopped-not-in ByDate = on-numbers (λ _ x. waitsIn ByDate (x .stopped)) (λ _ _. false) refl (λ n e. ap (λ (x : Kind). isIn ByDate (x .chain)) e)
 
 pub fired-not-in : (k : Chain) (n : ℕ) → waitsIn k (kindAt n .fired) ≡ false
-fired-not-in k = any-kind (λ x. waitsIn k (x .fired) ≡ false) (refl & refl & refl & refl & refl & refl & end) (λ n e. ap (λ (x : Kind). isIn k (x .chain)) e)
+fired-not-in ByTicks = on-numbers (λ _ x. waitsIn ByTicks (x .fired)) (λ _ _. false) refl (λ n e. ap (λ (x : Kind). isIn ByTicks (x .chain)) e)
+fired-not-in ByDate = on-numbers (λ _ x. waitsIn ByDate (x .fired)) (λ _ _. false) refl (λ n e. ap (λ (x : Kind). isIn ByDate (x .chain)) e)
 
 -- to stop and to fire leave a slot free or not
 pub stopped-free : (n : ℕ) → eqb (kindAt n .stopped) 0 ≡ eqb n 0
-stopped-free = number-law (λ n x. eqb (x .stopped) 0 ≡ eqb n 0) (refl & refl & refl & refl & refl & refl & end) (λ n. refl)
+stopped-free = on-numbers (λ _ x. eqb (x .stopped) 0) (λ n _. eqb n 0) refl (λ n e. refl)
 
 pub fired-free : (n : ℕ) → eqb (kindAt n .fired) 0 ≡ eqb n 0
-fired-free = number-law (λ n x. eqb (x .fired) 0 ≡ eqb n 0) (refl & refl & refl & refl & refl & refl & end) (λ n. refl)
+fired-free = on-numbers (λ _ x. eqb (x .fired) 0) (λ n _. eqb n 0) refl (λ n e. refl)
 
 -- a timer in no chain has nothing to stop
 pub stays : (n : ℕ) → isSome (kindAt n .chain) ≡ false → kindAt n .stopped ≡ n
-stays n =
-    cases (ltb n (length kinds))
-    (λ e. kind-law (λ m x. isSome (x .chain) ≡ false → x .stopped ≡ m)
-    ((λ _. refl) & (λ _. refl) & (λ _. refl) & (λ _. refl) & (λ f. clash f) & (λ f. clash f) & end) n (ltb-true n (length kinds) e))
-    (λ e _. ap (λ (x : Kind). x .stopped) (no-kind n (ltb-false n (length kinds) e)))
+stays n e =
+    ap (λ (b : Bool). cond b n (kindAt n .stopped)) (sym e)
+    ∙ on-numbers (λ n x. cond (isSome (x .chain)) n (x .stopped)) (λ n _. n) refl (λ n e. refl) n
 
 -- to stop and to fire leave how the timer was started
 pub stopped-last : (n : ℕ) → kindAt (kindAt n .stopped) .last ≡ kindAt n .last
-stopped-last = any-kind (λ x. kindAt (x .stopped) .last ≡ x .last) (refl & refl & refl & refl & refl & refl & end) (λ n e. ap (λ (x : Kind). x .last) e)
+stopped-last = on-numbers (λ _ x. kindAt (x .stopped) .last) (λ _ x. x .last) refl (λ n e. ap (λ (x : Kind). x .last) e)
 
 pub fired-last : (n : ℕ) → kindAt (kindAt n .fired) .last ≡ kindAt n .last
-fired-last = any-kind (λ x. kindAt (x .fired) .last ≡ x .last) (refl & refl & refl & refl & refl & refl & end) (λ n e. ap (λ (x : Kind). x .last) e)
+fired-last = on-numbers (λ _ x. kindAt (x .fired) .last) (λ _ x. x .last) refl (λ n e. ap (λ (x : Kind). x .last) e)
 
 -- free stays free, never started stays so, and started stays started
 pub record Alike (n m : ℕ) : Type 0 where
@@ -106,31 +118,23 @@ pub record Alike (n m : ℕ) : Type 0 where
   pub low : n ≤ 1 → m ≡ n
   pub high : 2 ≤ n → 2 ≤ m
 
-low-kind : (n : ℕ) → n ≤ 1 → Alike n n
-low-kind n p = record { is-kind = omega arith; low = λ _. refl; high = λ q. q }
+abbrev alikeTests : ℕ → ℕ → List Bool
+alikeTests n m = ltb m (length kinds) ∷ cond (leb n 1) (eqb m n) (leb 2 m) ∷ []
 
-high-kind : (n m : ℕ) → 2 ≤ n → 2 ≤ m → m < length kinds → Alike n m
-high-kind n m p q r = record { is-kind = r; low = λ h. absurd (omega arith); high = λ _. q }
+alike : (n m : ℕ) → allOf (alikeTests n m) ≡ true → Alike n m
+alike n m e =
+    let t = all-at (alikeTests n m) e in
+    record {
+      is-kind = ltb-true m (length kinds) (t 0);
+      low = λ p. eqb-true m n (subst (λ (b : Bool). cond b (eqb m n) (leb 2 m) ≡ true) (le-leb n 1 p) (t 1));
+      high = λ p. leb-true 2 m (subst (λ (b : Bool). cond b (eqb m n) (leb 2 m) ≡ true) (lt-leb n 1 p) (t 1));
+    }
 
 pub stopped-alike : (n : ℕ) → n < length kinds → Alike n (kindAt n .stopped)
-stopped-alike = kind-law (λ n x. Alike n (x .stopped)) (
-    low-kind 0 (omega arith)
-    & low-kind 1 (omega arith)
-    & high-kind 2 2 (omega arith) (omega arith) (omega arith)
-    & high-kind 3 3 (omega arith) (omega arith) (omega arith)
-    & high-kind 4 2 (omega arith) (omega arith) (omega arith)
-    & high-kind 5 3 (omega arith) (omega arith) (omega arith)
-    & end)
+stopped-alike n p = alike n (kindAt n .stopped) (on-kinds (λ n x. allOf (alikeTests n (x .stopped))) (λ _ _. true) refl n p)
 
 pub fired-alike : (n : ℕ) → n < length kinds → Alike n (kindAt n .fired)
-fired-alike = kind-law (λ n x. Alike n (x .fired)) (
-    low-kind 0 (omega arith)
-    & low-kind 1 (omega arith)
-    & high-kind 2 2 (omega arith) (omega arith) (omega arith)
-    & high-kind 3 3 (omega arith) (omega arith) (omega arith)
-    & high-kind 4 2 (omega arith) (omega arith) (omega arith)
-    & high-kind 5 3 (omega arith) (omega arith) (omega arith)
-    & end)
+fired-alike n p = alike n (kindAt n .fired) (on-kinds (λ n x. allOf (alikeTests n (x .fired))) (λ _ _. true) refl n p)
 
 -- a timer that was last started by ticks has been started
 pub timed-started : (n : ℕ) → lastByTicks n ≡ true → 2 ≤ n
