@@ -22,11 +22,10 @@ use Rattle.model.specs.Outcome.{entryWords}
 use Rattle.model.proofs.ListLaws.{all-map, keep-all, keep-none}
 use Rattle.model.proofs.WellFormed.{timesIn, Holds}
 use Rattle.model.proofs.Chains.{times-own, without-none, once, once-apart}
-use Rattle.model.proofs.Each.{end, _&_}
-use Rattle.model.proofs.KindLaws.{any-kind, each-chain}
+use Rattle.model.proofs.KindLaws.{on-numbers, each-chain}
 use Rattle.model.proofs.Spelling.{length-over}
 use Rattle.model.proofs.ReadBack.{slots-length, slot-read}
-use Rattle.model.proofs.Steps.{rechain-slots, rechain-room, rechain-clock, rechain-own, rechain-apart, stopped-chain, length-fire, room-fire, chained-fire}
+use Rattle.model.proofs.Steps.{rechain-slots, rechain-clock, rechain-own, rechain-apart, stopped-chain, length-fire, chained-fire}
 use Rattle.links.specs.Places.{InTable}
 use Rattle.links.proofs.NextState.{Next, next-read, next-holds, next-then}
 use Rattle.links.proofs.Restart.{stoppedAt, stop-next}
@@ -39,7 +38,7 @@ use Rattle.firing.proofs.Heads.{Front, front, no-front}
 pub next-fires : {t : List ℕ} {s : State} {u : List ℕ} → Next t s u → {k : Chain} {limit : ℕ} {l l′ : List ℕ} {n m : ℕ} {v : List ℕ}
     → Fires k u l limit n m v l′ → Next t (fire k limit s) v
 next-fires {s = s} x {k} {limit} f =
-    next-then x (fire k limit) (chained-fire k limit s (x .holds .chained)) (length-fire k limit s) (room-fire k limit s) (f .table)
+    next-then x (fire k limit) (chained-fire k limit s (x .holds .chained)) (length-fire k limit s) (f .table)
 
 -- ---- the first link of a chain fires
 
@@ -48,9 +47,8 @@ abbrev fired : Chain → State → Link → List Link → State
 fired k s y ys = rechain k s (firedAll (y ∷ []) (s .slots)) ys
 
 -- two states are the same where their parts are
-same-state : (s s′ : State) → s .room ≡ s′ .room → s .slots ≡ s′ .slots → s .clock ≡ s′ .clock → ((m : Chain) → chainOf m s ≡ chainOf m s′) → s ≡ s′
-same-state s s′ room slots clock chains = λ d. record {
-  room = room d;
+same-state : (s s′ : State) → s .slots ≡ s′ .slots → s .clock ≡ s′ .clock → ((m : Chain) → chainOf m s ≡ chainOf m s′) → s ≡ s′
+same-state s s′ slots clock chains = λ d. record {
   slots = slots d;
   clock = clock d;
   ticking = chains ByTicks d;
@@ -60,7 +58,7 @@ same-state s s′ room slots clock chains = λ d. record {
 -- to fire is to stop
 fired-idle : (x : Slot) → idled x ≡ model.fired x
 fired-idle x =
-    ap (λ (n : ℕ). became n x) (any-kind (λ y. y .stopped ≡ y .fired) (refl & refl & refl & refl & refl & refl & end) (λ n _. refl) (x .kind))
+    ap (λ (n : ℕ). became n x) (on-numbers (λ _ y. y .stopped) (λ _ y. y .fired) refl (λ n _. refl) (x .kind))
 
 stopped-first : (k : Chain) (s : State) (y : Link) (ys : List Link) → chainOf k s ≡ y ∷ ys → timesIn ys (y .slot) ≡ 0
     → ((m : Chain) → sameChain m k ≡ false → timesIn (chainOf m s) (y .slot) ≡ 0)
@@ -69,7 +67,7 @@ stopped-first k s y ys whole p q =
     let i = y .slot in
     let x = idled (slotAt (s .slots) i) in
     let slots = firedAll (y ∷ []) (s .slots) in
-    same-state (stopped s i x) (fired k s y ys) (sym (rechain-room s slots ys k))
+    same-state (stopped s i x) (fired k s y ys)
     (ap (putAt (s .slots) i) (fired-idle (slotAt (s .slots) i)) ∙ sym (rechain-slots s slots ys k)) (sym (rechain-clock s slots ys k))
     (each-chain (λ m. chainOf m (stopped s i x) ≡ chainOf m (fired k s y ys)) k
     (stopped-chain s i x k ∙ ap (without i) whole ∙ rw (eq-eqb i i refl) (without-none i ys p) ∙ sym (rechain-own s slots ys k))

@@ -121,7 +121,7 @@ module _ (t : List ℕ) (s : State) (h : Holds t s) (w : Link) (ws : List Link) 
 module _ (t : List ℕ) (ok : sound t ≡ true) where
   pub nearer-none : word t 5 ≡ 0 → t ≡ over (nearer (read t)) t
   nearer-none e =
-      sym (ap (λ (c : List Link). over (record { room = read t .room; slots = read t .slots; clock = read t .clock; ticking = c; dated = read t .dated }) t)
+      sym (ap (λ (c : List Link). over (record { slots = read t .slots; clock = read t .clock; ticking = c; dated = read t .dated }) t)
       (ap (map closer) none ∙ sym none) ∙ sound-holds t ok .is)
     where
       none : read t .ticking ≡ []

@@ -30,15 +30,15 @@ use Rattle.firing.proofs.Due.{next-fires, fires-list-length}
 
 -- A tick that fires interval timers with so many ticks left and dated ones up to a second; a set clock that fires one chain up to a limit.
 -- The model's tick fires at 0 ticks left and up to its clock's second, its set clock the dated chain up to the second given.
-abbrev pub tickedTo : ℕ → ℕ → State → List ℕ → Effect
-tickedTo limit second s list =
+abbrev pub tickedTo : ℕ → ℕ → State → Effect
+tickedTo limit second s =
     let near = nearer s in
     let later = reclock (fire ByTicks limit near) (clockStep (s .clock)) in
-    firing (fire ByDate second later) (due ByTicks limit near ++ due ByDate second later) list
+    firing (fire ByDate second later) (due ByTicks limit near ++ due ByDate second later)
 
-abbrev pub movedTo : Chain → ℕ → State → ℕ → List ℕ → Effect
-movedTo k limit s second list =
-    let later = reclock s (clockAt (s .clock) second 0) in firing (fire k limit later) (due k limit later) list
+abbrev pub movedTo : Chain → ℕ → State → ℕ → Effect
+movedTo k limit s second =
+    let later = reclock s (clockAt (s .clock) second 0) in firing (fire k limit later) (due k limit later)
 
 -- the words are those that a call leaves, with its answer
 pub record Leaves (t list : List ℕ) (e : Effect) (m : ℕ) (u list′ : List ℕ) : Type 0 where
@@ -75,7 +75,7 @@ module _ (t list : List ℕ) (ok : sound t ≡ true) (long : 3 * word t 0 ≤ le
 
   module _ {u₁ : List ℕ} (e₁ : u₁ ≡ over (nearer (read t)) t) where
     after-nearer : Next t (nearer (read t)) u₁
-    after-nearer = next-then start nearer (chained-nearer (read t) chained) refl refl e₁
+    after-nearer = next-then start nearer (chained-nearer (read t) chained) refl e₁
 
     few-both : length (nearer (read t) .ticking) + length (read t .dated) ≤ length (read t .slots)
     few-both = fit-both (nearer (read t)) (chained-nearer (read t) chained)
@@ -108,7 +108,7 @@ module _ (t list : List ℕ) (ok : sound t ≡ true) (long : 3 * word t 0 ≤ le
         after-clock : Next t (reclock (fire ByTicks limit (nearer (read t))) (clockStep (read t .clock))) u₃
         after-clock =
             next-then after-first (λ z. reclock z (clockStep (z .clock)))
-            (chained-reclock (fire ByTicks limit (nearer (read t))) (clockStep (read t .clock)) (after-first .holds .chained)) refl refl e₃
+            (chained-reclock (fire ByTicks limit (nearer (read t))) (clockStep (read t .clock)) (after-first .holds .chained)) refl e₃
 
         pub clock-long : 10 ≤ length u₃
         clock-long = omega (arith, next-holds after-clock .long)
@@ -121,7 +121,7 @@ module _ (t list : List ℕ) (ok : sound t ≡ true) (long : 3 * word t 0 ≤ le
         second-is = ap (λ (z : State). z .clock .second) (next-read after-clock)
 
         pub ticked-is : {second m : ℕ} {u₄ list₄ : List ℕ} → Fires ByDate u₃ list₂ second n m u₄ list₄
-            → Leaves t list (tickedTo limit second (read t) list) m u₄ list₄
+            → Leaves t list (tickedTo limit second (read t)) m u₄ list₄
         ticked-is {second} {m} {u₄} {list₄} f₃ =
             let s = read t in
             let first = due ByTicks limit (nearer s) in
@@ -150,7 +150,7 @@ module _ (t list : List ℕ) (ok : sound t ≡ true) (long : 3 * word t 0 ≤ le
     after-set : Next t (reclock (read t) (clockAt (read t .clock) second 0)) u₁
     after-set =
         next-then start (λ z. reclock z (clockAt (z .clock) second 0))
-        (chained-reclock (read t) (clockAt (read t .clock) second 0) chained) refl refl e₁
+        (chained-reclock (read t) (clockAt (read t .clock) second 0) chained) refl e₁
 
     few-one : (k : Chain) → length (chainOf k (reclock (read t) (clockAt (read t .clock) second 0))) ≤ length (read t .slots)
     few-one = fits (reclock (read t) (clockAt (read t .clock) second 0)) (after-set .holds .chained)
@@ -159,7 +159,7 @@ module _ (t list : List ℕ) (ok : sound t ≡ true) (long : 3 * word t 0 ≤ le
     moved-room k limit = room-for after-set k limit 0 list refl (omega (arith, few-one k))
 
     pub moved-is : {k : Chain} {limit m : ℕ} {u₂ list₂ : List ℕ} → Fires k u₁ list limit 0 m u₂ list₂
-        → Leaves t list (movedTo k limit (read t) second list) m u₂ list₂
+        → Leaves t list (movedTo k limit (read t) second) m u₂ list₂
     moved-is {k} {limit} {m} {u₂} {list₂} f =
         let later = reclock (read t) (clockAt (read t .clock) second 0) in
         let number : m ≡ length (due k limit later) =

@@ -41,14 +41,12 @@ stopped-as : (k : Chain) (s : State) (i : ℕ) (x : Slot) (c : List Link) → wi
     → ((m : Chain) → sameChain m k ≡ false → timesIn (chainOf m s) i ≡ 0)
     → rechain k s (putAt (s .slots) i x) c ≡ stopped s i x
 stopped-as ByTicks s i x c e n = λ d. record {
-  room = s .room;
   slots = putAt (s .slots) i x;
   clock = s .clock;
   ticking = sym e d;
   dated = sym (without-none i (s .dated) (n ByDate refl)) d;
 }
 stopped-as ByDate s i x c e n = λ d. record {
-  room = s .room;
   slots = putAt (s .slots) i x;
   clock = s .clock;
   ticking = sym (without-none i (s .ticking) (n ByTicks refl)) d;

@@ -59,14 +59,12 @@ given-is ByDate t n w a b c h e f p q = given-date t w n h ∙ e
 started-as : (k : Chain) (s : State) (i n : ℕ) (x : Slot) (c : List Link) → ((m : Chain) → timesIn (chainOf m s) i ≡ 0)
     → place (λ w. w .wait) (record { slot = i; wait = n }) (chainOf k s) ≡ c → rechain k s (putAt (s .slots) i x) c ≡ joined k (stopped s i x) i n
 started-as ByTicks s i n x c none e = λ d. record {
-  room = s .room;
   slots = putAt (s .slots) i x;
   clock = s .clock;
   ticking = (sym e ∙ ap (place (λ w. w .wait) (record { slot = i; wait = n })) (sym (without-none i (s .ticking) (none ByTicks)))) d;
   dated = sym (without-none i (s .dated) (none ByDate)) d;
 }
 started-as ByDate s i n x c none e = λ d. record {
-  room = s .room;
   slots = putAt (s .slots) i x;
   clock = s .clock;
   ticking = sym (without-none i (s .ticking) (none ByTicks)) d;

@@ -25,11 +25,11 @@ module _ {t : List ℕ} {s : State} {u : List ℕ} (x : Next t s u) where
   next-holds = subst (Holds u) (sym next-read) (x .holds)
 
   -- one step more, which leaves f of the state: the chains stay in order, and there are as many slots
-  pub next-then : (f : State → State) → Chained (f s) → length (f s .slots) ≡ length (s .slots) → f s .room ≡ s .room
+  pub next-then : (f : State → State) → Chained (f s) → length (f s .slots) ≡ length (s .slots)
       → {v : List ℕ} → v ≡ over (f (read u)) u → Next t (f s) v
-  next-then f c e r {v} is =
+  next-then f c e {v} is =
       let at : v ≡ over (f s) u = is ∙ ap (λ (z : State). over (f z) u) next-read in
       record {
         is = at ∙ ap (over (f s)) (x .is) ∙ over-over s (f s) t e;
-        holds = subst (λ (w : List ℕ). Holds w (f s)) (sym at) (over-holds u s (f s) (x .holds) c e r);
+        holds = subst (λ (w : List ℕ). Holds w (f s)) (sym at) (over-holds u s (f s) (x .holds) c e);
       }

@@ -22,7 +22,7 @@ use Rattle.model.proofs.WellFormed.{timesIn, Chained, Holds}
 use Rattle.model.proofs.Chains.{times-own, met-in-range}
 use Rattle.model.proofs.KindLaws.{each-chain}
 use Rattle.model.proofs.Spelling.{headWords, linkWord, link-field, Lay, Loose, Parts, holds-parts, parts-holds, Linked, linked-lay, holds-linked}
-use Rattle.model.proofs.Steps.{rechain-slots, rechain-clock, rechain-room, rechain-own, rechain-apart, rechained}
+use Rattle.model.proofs.Steps.{rechain-slots, rechain-clock, rechain-own, rechain-apart, rechained}
 use Rattle.links.specs.Places.{lastSlot, lastWait}
 use Rattle.links.proofs.Middle.{times-more, times-mid, times-at}
 use Rattle.links.proofs.Surgery.{head-low, Edit, slotOf, own-slot, kept, kept-link, kept-head, kept-rest}
@@ -287,7 +287,6 @@ module _ {k : Chain} {t u : List ℕ} {s : State} {xs : List Link} {e : Link} {y
         let slots = putAt (s .slots) (e .slot) (slotOf ws) in
         let size : length (s′ .slots) ≡ length (s .slots) =
         ap (λ (x : State). length (x .slots)) (sym is) ∙ ap length (rechain-slots s slots c k) ∙ length-put (s .slots) (e .slot) (slotOf ws) in
-        let room : s′ .room ≡ length u = ap (λ (x : State). x .room) (sym is) ∙ rechain-room s slots c k ∙ h .room ∙ sym (edit .long) in
-        let held = parts-holds u s′ ok (subst (Parts u) is after) (omega (arith, h .long, edit .long)) room in
+        let held = parts-holds u s′ ok (subst (Parts u) is after) (omega (arith, h .long, edit .long)) in
         sym (held .is) ∙ ap (write s′) (kept-rest edit (length (s′ .slots))
         (omega (arith, last-high a)) (omega (arith, first-high a)) (omega (arith, own-within a .1)))

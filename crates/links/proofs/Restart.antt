@@ -24,7 +24,6 @@ stopped-twice : (s : State) (i : ℕ) (x y : Slot) → stopped (stopped s i x) i
 stopped-twice s i x y =
     let once : (l : List Link) → without i (without i l) ≡ without i l = λ l. without-none i (without i l) (times-without i l) in
     λ d. record {
-      room = s .room;
       slots = put-put (s .slots) i x y d;
       clock = s .clock;
       ticking = once (s .ticking) d;
@@ -41,7 +40,7 @@ module _ (t : List ℕ) (i : ℕ) (h : InTable t i) (u : List ℕ) (is : u ≡ o
       let x = slotAt (read t .slots) i in
       next-then (next-start (h .holds)) (λ s. stopped s i (idled (slotAt (s .slots) i)))
       (chained-stopped (read t) (h .holds .chained) i (idled x) (h .low) (in-slots t i h) (λ k. stopped-not-in k (x .kind)))
-      (length-stopped (read t) i (idled x)) refl is
+      (length-stopped (read t) i (idled x)) is
 
   slot-now : slotAt (stoppedAt t i .slots) i ≡ idled (slotAt (read t .slots) i)
   slot-now = at-same (read t .slots) i (idled (slotAt (read t .slots) i)) (h .low) (in-slots t i h)

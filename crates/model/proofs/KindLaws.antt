@@ -13,7 +13,7 @@ use Rattle.model.specs.Kinds.{Chain, ByTicks, ByDate, Mode, After, When,
 use Rattle.model.proofs.ListLaws.{cases, clash, all-at}
 
 -- what a reading of kinds gives for each kind of a table
-abbrev readAll : {B : Type 0} → (ℕ → Kind → B) → ℕ → List Kind → List B
+abbrev pub readAll : {B : Type 0} → (ℕ → Kind → B) → ℕ → List Kind → List B
 readAll f n [] = []
 readAll f n (x ∷ xs) = f n x ∷ readAll f (suc n) xs
 

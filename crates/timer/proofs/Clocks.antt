@@ -74,20 +74,20 @@ second-is w {s} e n = second-answer w s e n .is
 -- it fires the dated timers, up to the second given
 pub set-clock-done : (t : List ℕ) (w : WallTime) (list : List ℕ) {k : Chain} {limit s m : ℕ} {u list′ : List ℕ}
     → All (λ r. r .given ≡ false) (rules t (setClock w list)) → s ≡ secondsOf w
-    → Leaves t list (movedTo k limit (read t) s list) m u list′ → k ≡ ByDate → limit ≡ s
+    → Leaves t list (movedTo k limit (read t) s) m u list′ → k ≡ ByDate → limit ≡ s
     → record { status = 0; answer = m ∷ []; table = u; list = list′ } ≡ outcome t (setClock w list)
 set-clock-done t w list {k} {limit} {s} {m} {u} {list′} none e l chain to =
-    let dated = subst (λ (x : Chain). Leaves t list (movedTo x limit (read t) s list) m u list′) chain l in
-    let now = subst (λ (d : ℕ). Leaves t list (movedTo ByDate d (read t) s list) m u list′) to dated in
-    let left = subst (λ (d : ℕ). Leaves t list (movedTo ByDate d (read t) d list) m u list′) e now in
+    let dated = subst (λ (x : Chain). Leaves t list (movedTo x limit (read t) s) m u list′) chain l in
+    let now = subst (λ (d : ℕ). Leaves t list (movedTo ByDate d (read t) s) m u list′) to dated in
+    let left = subst (λ (d : ℕ). Leaves t list (movedTo ByDate d (read t) d) m u list′) e now in
     done t (setClock w list) (m ∷ []) u list′ none (left .answer) (left .table) (left .entries)
 
 -- ---- tick: it fires at no ticks left, and up to the second that the clock has come to
 
 pub tick-done : (t list : List ℕ) {limit second m : ℕ} {u list′ : List ℕ} → All (λ r. r .given ≡ false) (rules t (tick list))
-    → second ≡ clockStep (read t .clock) .second → Leaves t list (tickedTo limit second (read t) list) m u list′ → limit ≡ 0
+    → second ≡ clockStep (read t .clock) .second → Leaves t list (tickedTo limit second (read t)) m u list′ → limit ≡ 0
     → record { status = 0; answer = m ∷ []; table = u; list = list′ } ≡ outcome t (tick list)
 tick-done t list {limit} {second} {m} {u} {list′} none e l at =
-    let first = subst (λ (d : ℕ). Leaves t list (tickedTo d second (read t) list) m u list′) at l in
-    let left = subst (λ (d : ℕ). Leaves t list (tickedTo 0 d (read t) list) m u list′) e first in
+    let first = subst (λ (d : ℕ). Leaves t list (tickedTo d second (read t)) m u list′) at l in
+    let left = subst (λ (d : ℕ). Leaves t list (tickedTo 0 d (read t)) m u list′) e first in
     done t (tick list) (m ∷ []) u list′ none (left .answer) (left .table) (left .entries)

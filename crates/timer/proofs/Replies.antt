@@ -9,7 +9,7 @@ use lib.ListN.{getD, take}
 use Rattle.model.specs.declared.Status.{Status}
 use Rattle.model.specs.Lists.{All}
 use Rattle.model.specs.Status.{Refusal, numberOf}
-use Rattle.model.specs.Calls.{Call}
+use Rattle.model.specs.Calls.{Call, lentTo}
 use Rattle.model.specs.State.{listed}
 use Rattle.model.specs.Directives.{refusals, effect}
 use Rattle.model.specs.Words.{over, read}
@@ -21,19 +21,19 @@ use Rattle.model.proofs.OutcomeLaws.{status-is, outcome-accepted, refused-by}
 
 -- the rules of a call on a table
 abbrev pub rules : List ℕ → Call → List Refusal
-rules t c = refusals (not (sound t)) (read t) c
+rules t c = refusals t (read t) c
 
 module _ (t : List ℕ) (c : Call) where
   pub refuses : (s : Status) (k : ℕ) → All (λ r. r .given ≡ false) (take k (rules t c)) → getD (rules t c) k noRule .given ≡ true
-      → getD (rules t c) k noRule .number ≡ numberOf s → refused (numberOf s) t c ≡ outcome t c
-  refuses s k before now number = sym (refused-by t c s (status-is t c ∙ first-given (rules t c) k before now ∙ number))
+      → getD (rules t c) k noRule .status ≡ s → refused (numberOf s) t c ≡ outcome t c
+  refuses s k before now number = sym (refused-by t c s (status-is t c ∙ first-given (rules t c) k before now ∙ ap numberOf number))
 
   accepts : All (λ r. r .given ≡ false) (rules t c) → accepted t c ≡ outcome t c
   accepts none = sym (outcome-accepted t c (status-is t c ∙ none-given (rules t c) none))
 
   -- answer, table and list as the call leaves them
   pub done : (answer table list : List ℕ) → All (λ r. r .given ≡ false) (rules t c) → answer ≡ effect (read t) c .answer
-      → table ≡ over (effect (read t) c .state) t → list ≡ written (map (listed (read t .slots)) (effect (read t) c .fired)) (effect (read t) c .lent)
+      → table ≡ over (effect (read t) c .state) t → list ≡ written (map (listed (read t .slots)) (effect (read t) c .fired)) (lentTo c)
       → record { status = 0; answer = answer; table = table; list = list } ≡ outcome t c
   done answer table list none a u l = (λ j. record { status = 0; answer = a j; table = u j; list = l j }) ∙ accepts none
 

@@ -74,13 +74,13 @@ module _ (t : List ℕ) (ok : sound t ≡ true) where
 
 -- ---- lay out
 
-module _ (room n t : ℕ) (rest : List ℕ) where
+module _ (n t : ℕ) (rest : List ℕ) where
   free-words : (s : State) → s .ticking ≡ [] → s .dated ≡ [] → (i m : ℕ) → allSlots s i (replicate m free) rest ≡ replicate (8 * m) 0 ++ rest
   free-words s a b i zero = refl
   free-words s a b i (suc m) =
       ap₂
       (λ (p q : List Link).
-      slotWords (record { room = s .room; slots = s .slots; clock = s .clock; ticking = p; dated = q }) i free (allSlots s (suc i) (replicate m free) rest))
+      slotWords (record { slots = s .slots; clock = s .clock; ticking = p; dated = q }) i free (allSlots s (suc i) (replicate m free) rest))
       a b
       ∙ ap {B = List ℕ} (λ (l : List ℕ). 0 ∷ 0 ∷ 0 ∷ 0 ∷ 0 ∷ 0 ∷ 0 ∷ 0 ∷ l) (free-words s a b (suc i) m)
       ∙ ap (λ (k : ℕ). replicate k 0 ++ rest) eight
@@ -88,17 +88,17 @@ module _ (room n t : ℕ) (rest : List ℕ) where
       eight : suc (suc (suc (suc (suc (suc (suc (suc (8 * m)))))))) ≡ 8 * suc m
       eight = omega arith
 
-  laid-words : write (laidOut room n t) rest ≡ set (set (replicate (10 + 8 * n) 0 ++ rest) 0 n) 1 t
+  laid-words : write (laidOut n t) rest ≡ set (set (replicate (10 + 8 * n) 0 ++ rest) 0 n) 1 t
   laid-words =
       ap₂ {C = List ℕ} (λ (k : ℕ) (l : List ℕ). k ∷ t ∷ 0 ∷ 0 ∷ 0 ∷ 0 ∷ 0 ∷ 0 ∷ 0 ∷ 0 ∷ l) (length-replicate n free)
-      (free-words (laidOut room n t) refl refl 1 n)
+      (free-words (laidOut n t) refl refl 1 n)
       ∙ ap (λ (k : ℕ). set (set (replicate k 0 ++ rest) 0 n) 1 t) ten
     where
       ten : suc (suc (suc (suc (suc (suc (suc (suc (suc (suc (8 * n)))))))))) ≡ 10 + 8 * n
       ten = omega arith
 
-pub laid-is : (w u : List ℕ) (n t : ℕ) → u ≡ replicate (10 + 8 * n) 0 ++ drop (10 + 8 * n) w → set (set u 0 n) 1 t ≡ over (laidOut (length w) n t) w
+pub laid-is : (w u : List ℕ) (n t : ℕ) → u ≡ replicate (10 + 8 * n) 0 ++ drop (10 + 8 * n) w → set (set u 0 n) 1 t ≡ over (laidOut n t) w
 laid-is w u n t e =
     ap (λ (l : List ℕ). set (set l 0 n) 1 t) e
-    ∙ sym (laid-words (length w) n t (drop (10 + 8 * n) w))
-    ∙ ap (λ (k : ℕ). write (laidOut (length w) n t) (drop (10 + 8 * k) w)) (sym (length-replicate n free))
+    ∙ sym (laid-words n t (drop (10 + 8 * n) w))
+    ∙ ap (λ (k : ℕ). write (laidOut n t) (drop (10 + 8 * k) w)) (sym (length-replicate n free))
