@@ -10,6 +10,7 @@ use Rattle.model.specs.State.{Slot, Link, Fired, listed, idBase}
 use Rattle.model.specs.Directives.{firedAll}
 use Rattle.model.specs.Outcome.{entryWords, written}
 use Rattle.model.proofs.Slots.{memo-firedAll}
+use Rattle.model.proofs.ListWords.{length-entries}
 
 -- ---- stores
 
@@ -33,14 +34,6 @@ sets-append l a (v ∷ vs) ws = ap (λ (n : ℕ). sets (sets (set l a v) (suc a)
     shift = omega arith
 
 -- ---- entries
-
-pub entries-append : (fs gs : List Fired) → entryWords (fs ++ gs) ≡ entryWords fs ++ entryWords gs
-entries-append [] gs = refl
-entries-append (f ∷ fs) gs = ap {B = List ℕ} (λ r. f .id ∷ f .routine ∷ f .userData ∷ r) (entries-append fs gs)
-
-pub length-entries : (fs : List Fired) → length (entryWords fs) ≡ 3 * length fs
-length-entries [] = refl
-length-entries (f ∷ fs) = let ih = length-entries fs in omega arith
 
 pub sets-written : (fs : List Fired) (l : List ℕ) → 3 * length fs ≤ length l → sets l 0 (entryWords fs) ≡ written fs l
 sets-written fs l p =

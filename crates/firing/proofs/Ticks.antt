@@ -23,7 +23,8 @@ use Rattle.model.proofs.Steps.{chained-nearer, chained-reclock}
 use Rattle.model.proofs.SoundHolds.{sound-holds, sound-well-formed}
 use Rattle.links.proofs.NextState.{Next, next-start, next-read, next-holds, next-then}
 use Rattle.firing.specs.Lists.{Room, Fires}
-use Rattle.firing.proofs.Entries.{sets-append, entries-append, length-entries, sets-written, listed-idle}
+use Rattle.model.proofs.ListWords.{entries-append, length-entries}
+use Rattle.firing.proofs.Entries.{sets-append, sets-written, listed-idle}
 use Rattle.firing.proofs.Due.{next-fires, fires-list-length}
 
 -- ---- the whole call

@@ -16,9 +16,9 @@ use Rattle.model.specs.State.{State, names, listed}
 use Rattle.model.specs.Directives.{laidOut, effect}
 use Rattle.model.specs.Words.{first, word, field, along, links, read}
 use Rattle.model.specs.Sound.{sound}
-use Rattle.model.specs.Outcome.{Outcome, statusOn, written, outcome}
+use Rattle.model.specs.Outcome.{Outcome, statusOn, outcome}
 use Rattle.model.specs.History.{Start, Event, laidOutFor, changes, eventOf, eventsOn, starts, fires, inChain, left, entry}
-use Rattle.model.specs.Demand.{after, acceptedIn, shown, Standing, Lists, Answers, eventsAfter, Demand3}
+use Rattle.model.specs.Demand.{after, acceptedIn, shown, Standing, Begins, Lists, Answers, eventsAfter, Demand3}
 use Rattle.model.proofs.ListLaws.{cases}
 use Rattle.model.proofs.Order.{order, order-in-order}
 use Rattle.model.proofs.Chains.{once-all}
@@ -30,7 +30,8 @@ use Rattle.model.proofs.Simulation.{Agrees, agrees-laid}
 use Rattle.model.proofs.Agreement.{reset-last, agrees-step, lists-due, none-due, counts}
 use Rattle.model.proofs.OutcomeLaws.{status-is, outcome-accepted, outcome-refused, outcome-status}
 use Rattle.model.proofs.CallTables.{laid-table, laid-sound, laid-read, effect-sound, table-left, state-left}
-use Rattle.model.proofs.Lasting.{none-laid, lasts-on, anew-on}
+use Rattle.model.proofs.Lasting.{none-laid, cancels-on, lasts-on, anew-on}
+use Rattle.model.proofs.ListWords.{list-begins, table-size, words-beyond}
 
 -- the table t is sound and its state agrees with the events h
 record SoundAndAgreeing (t : List ℕ) (h : List Event) : Type 0 where
@@ -86,7 +87,7 @@ module _ (t : List ℕ) (h : List Event) (g : SoundAndAgreeing t h) (c : Call) w
         dated = m;
         ticking-order = order-in-order left (keep (inChain ByTicks) (keep (fires (eventOf h c)) (starts h)));
         dated-order = order-in-order left (keep (inChain ByDate) (keep (fires (eventOf h c)) (starts h)));
-        entries = ap (λ (x : Outcome). x .list) o ∙ ap (λ x. written x (lentTo c)) due;
+        entries = subst (Begins (outcome t c .list) (lentTo c)) due (list-begins t (g .is-sound) c z);
         counted = λ moving. ap (λ (x : Outcome). x .answer) o ∙ counts (read t) h c moving ∙ ap {B = List ℕ} (λ (n : ℕ). n ∷ []) (sym many);
         quiet = λ still. ap₂ (λ a b. a ++ b) (none-due h (g .agrees .sized) (eventOf h c) ByTicks still) (none-due h (g .agrees .sized) (eventOf h c) ByDate still);
         few = omega (arith, many, bound (read t) f c, slots-length t);
@@ -103,9 +104,14 @@ module _ (t : List ℕ) (h : List Event) (g : SoundAndAgreeing t h) (c : Call) w
   answers-now : Answers t h c (eventOf h c)
   answers-now = record {
     lists = λ e. lists-now (sym (outcome-status t c) ∙ e);
+    lent-tick = λ list is. ap lentTo is;
+    lent-set = λ w list is. ap lentTo is;
+    cancels = λ id is e. cancels-on t (g .is-sound) id c is (sym (outcome-status t c) ∙ e);
     restarts = λ id is e. restarts-now (sym (outcome-status t c) ∙ e) id is;
     lasts = λ e id. lasts-on t (g .is-sound) c (sym (outcome-status t c) ∙ e) id;
     anew = λ name is e. anew-on t (g .is-sound) name c is (sym (outcome-status t c) ∙ e);
+    size = table-size t (g .is-sound) c;
+    beyond = words-beyond t (g .is-sound) c;
     refuses = λ e.
         let o = outcome-refused t c (λ z. e (outcome-status t c ∙ z)) in
         (ap (λ (x : Outcome). x .table) o, ap (λ (x : Outcome). x .list) o, ap (λ (x : Outcome). x .answer) o);

@@ -13,7 +13,7 @@ use Rattle.model.specs.Calls.{Call, layOut, create, ident, cancel, delet
 use Rattle.model.specs.Kinds.{Kind, Mode, After, When, Chain, ByTicks, ByDate, kindAt, waitingKind, lastMode}
 use Rattle.model.specs.State.{Slot, Link, State, reclock, free, slotAt, putAt, idBase, indexOf, names}
 use Rattle.model.specs.Directives.{lowestFree, laidOut, stored, unused, stopped, idled, waitingAs, started, fired, firedAll, due, fire, nearer, clockAt, clockStep, effect}
-use Rattle.model.specs.Words.{read}
+use Rattle.model.specs.Words.{sumOf, read}
 use Rattle.model.specs.Sound.{sound}
 use Rattle.model.specs.Outcome.{Outcome, statusOn, outcome}
 use Rattle.model.specs.History.{lastsAfter}
@@ -21,6 +21,8 @@ use Rattle.model.specs.Demand.{firstNumber}
 use Rattle.model.proofs.ListLaws.{cases, clash}
 use Rattle.model.proofs.KindLaws.{stopped-free, fired-free, mode-kind}
 use Rattle.model.proofs.Slots.{at-same, at-other, length-put, field-put, length-firedAll, blank}
+use Rattle.model.proofs.WellFormed.{timesIn}
+use Rattle.model.proofs.Chains.{times-without}
 use Rattle.model.proofs.Searches.{found}
 use Rattle.model.proofs.Steps.{rechain-slots}
 use Rattle.model.proofs.Refused.{Named, named, named-true, Accepted, accepted-facts}
@@ -167,3 +169,11 @@ module _ (t : List ℕ) (ok : sound t ≡ true) where
   anew-on name c is =
       subst (λ (d : Call). statusOn t d ≡ 0 → names (read t) (firstNumber (outcome t d .answer)) ≡ false) (sym is)
       (λ e. ap (λ (a : List ℕ). names (read t) (firstNumber a)) (answer-is (create name) e) ∙ created-anew (read t) (facts (create name) e .1))
+
+  pub cancels-on : (id : ℕ) (c : Call) → c ≡ cancel id → statusOn t c ≡ 0
+      → sumOf (λ _ l. timesIn l (indexOf id)) (read (outcome t c .table)) ≡ 0
+  cancels-on id c is =
+      subst (λ (d : Call). statusOn t d ≡ 0 → sumOf (λ _ l. timesIn l (indexOf id)) (read (outcome t d .table)) ≡ 0) (sym is)
+      (λ e.
+      ap (sumOf (λ _ l. timesIn l (indexOf id))) (state-left t ok (cancel id) e)
+      ∙ omega (arith, times-without (indexOf id) (read t .ticking), times-without (indexOf id) (read t .dated)))

@@ -27,6 +27,8 @@ pub mod Agreement
 pub mod OutcomeLaws
 pub mod CallTables
 pub mod Lasting
+pub mod ListWords
 pub mod Demand3
 pub mod Readings
+pub mod CallReadings
 pub mod Cases

@@ -17,8 +17,8 @@ use Rattle.model.specs.History.{Start, startOf, Event, changes, oneTick,
 use Rattle.model.specs.Directives.{effect}
 use Rattle.model.specs.Words.{over, links, read}
 use Rattle.model.specs.Sound.{sound}
-use Rattle.model.specs.Outcome.{Outcome, statusOn, written, outcome}
-use Rattle.model.specs.Demand.{after, eventsAfter}
+use Rattle.model.specs.Outcome.{Outcome, statusOn, outcome}
+use Rattle.model.specs.Demand.{after, Begins, eventsAfter}
 use Rattle.model.proofs.ListLaws.{cases, clash, all-map, all-append, all-mapped, all-keep, all-passed, all-zip, keep-none}
 use Rattle.model.proofs.Order.{order, orderOn, all-orderOn, order-in-order}
 use Rattle.model.proofs.ReadBack.{links-is}
@@ -237,7 +237,7 @@ clock-moves-no-tick d g = refl
 pub tick-lists : (w : List ℕ) (n t : ℕ) → outcome w (layOut n t) .status ≡ 0 → (xs : List Call) (list : List ℕ) (P Q : List Event) (id timer k r u : ℕ)
     → outcome (after w (layOut n t ∷ xs)) (tick list) .status ≡ 0
     → eventsAfter w (layOut n t ∷ xs) ≡ Q ++ (changes id (some (forTicks timer k r u)) ∷ P) → any (ends timer) Q ≡ false → suc (ticks Q) ≡ k
-    → (fired : List Fired) × (outcome (after w (layOut n t ∷ xs)) (tick list) .list ≡ written fired list)
+    → (fired : List Fired) × Begins (outcome (after w (layOut n t ∷ xs)) (tick list) .list) list fired
     × List·Memᴰ (record { id = timer; routine = r; userData = u }) fired
 tick-lists w n t ok xs list P Q id timer k r u accepted is quiet nth =
     let a = demand3 w n t ok (xs ++ (tick list ∷ [])) .answers xs [] (tick list) refl .lists accepted in
@@ -256,7 +256,7 @@ pub date-lists : (w : List ℕ) (n t : ℕ) → outcome w (layOut n t) .status �
     → outcome (after w (layOut n t ∷ xs)) c .status ≡ 0 → let es = eventsAfter w (layOut n t ∷ xs) in
     let B = changes id (some (forDate timer d r u)) ∷ P in
     es ≡ Q ++ B → any (ends timer) Q ≡ false → reached d B Q ≡ false → moves (eventOf es c) ≡ true → past d (eventOf es c ∷ Q ++ B) ≡ true
-    → (fired : List Fired) × (outcome (after w (layOut n t ∷ xs)) c .list ≡ written fired (lentTo c))
+    → (fired : List Fired) × Begins (outcome (after w (layOut n t ∷ xs)) c .list) (lentTo c) fired
     × List·Memᴰ (record { id = timer; routine = r; userData = u }) fired
 date-lists w n t ok xs c P Q id timer d r u accepted is quiet before moving there =
     let es = eventsAfter w (layOut n t ∷ xs) in
@@ -275,7 +275,7 @@ date-lists w n t ok xs c P Q id timer d r u accepted is quiet before moving ther
 -- Each entry that any accepted call writes is that of a start that is due there, was not due before and was not ended.
 pub lists-only : (w : List ℕ) (n t : ℕ) → outcome w (layOut n t) .status ≡ 0 → (xs : List Call) (c : Call)
     → outcome (after w (layOut n t ∷ xs)) c .status ≡ 0 → (l : List Placed)
-    × (outcome (after w (layOut n t ∷ xs)) c .list ≡ written (map entry l) (lentTo c))
+    × Begins (outcome (after w (layOut n t ∷ xs)) c .list) (lentTo c) (map entry l)
     × All (Listed (eventsAfter w (layOut n t ∷ xs)) (eventOf (eventsAfter w (layOut n t ∷ xs)) c)) l
 lists-only w n t ok xs c accepted =
     let es = eventsAfter w (layOut n t ∷ xs) in

@@ -95,19 +95,20 @@ same-words t u s h g m p =
     let is : m ≡ 2 + 8 * i + f = omega arith in
     rw is (h .body i f (omega arith) (omega arith) (omega arith) ∙ sym (g .body i f (omega arith) (omega arith) (omega arith))))
 
+-- the words behind it are as they were
+pub past-over : (s : State) (t : List ℕ) (m : ℕ) → 10 + 8 * length (s .slots) ≤ m → word (over s t) m ≡ word t m
+past-over s t m q =
+    let n = 10 + 8 * length (s .slots) in
+    let is : m ≡ n + (m - n) = omega arith in
+    ap (word (over s t)) is ∙ sym (getD-drop n (over s t) (m - n) 0)
+    ∙ ap (λ (u : List ℕ). word u (m - n)) (drop-write s (drop n t)) ∙ getD-drop n t (m - n) 0 ∙ ap (word t) (sym is)
+
 pub spelled-over : (t : List ℕ) (s : State) → Spelled t s → 10 + 8 * length (s .slots) ≤ length t → over s t ≡ t
 spelled-over t s h long =
     let n = 10 + 8 * length (s .slots) in
     ext-getD 0 (over s t) t (length-over s t long) (λ m _. cases (ltb m n)
     (λ e. same-words (over s t) t s (write-spelled s (drop n t)) h m (ltb-true m n e))
-    (λ e. beyond m (ltb-false m n e)))
-  where
-    beyond : (m : ℕ) → 10 + 8 * length (s .slots) ≤ m → word (over s t) m ≡ word t m
-    beyond m q =
-        let n = 10 + 8 * length (s .slots) in
-        let is : m ≡ n + (m - n) = omega arith in
-        ap (word (over s t)) is ∙ sym (getD-drop n (over s t) (m - n) 0)
-        ∙ ap (λ (u : List ℕ). word u (m - n)) (drop-write s (drop n t)) ∙ getD-drop n t (m - n) 0 ∙ ap (word t) (sym is)
+    (λ e. past-over s t m (ltb-false m n e)))
 
 -- ---- by parts
 

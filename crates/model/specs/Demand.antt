@@ -6,13 +6,14 @@ use mathlib.Core.Option.{none, some}
 use mathlib.Core.List.{List, [], _∷_, _++_, map, reverse}
 use lib.ListN.{length, getD, replicate}
 use lib.Dec.{eqb}
+use Rattle.calendar.specs.declared.WallTime.{WallTime}
 use Rattle.model.specs.Lists.{keep, count, InOrder}
-use Rattle.model.specs.Calls.{Call, layOut, create, reset, lentTo, answerCount}
+use Rattle.model.specs.Calls.{Call, layOut, create, cancel, reset, tick, setClock, lentTo, answerCount}
 use Rattle.model.specs.Kinds.{Chain, ByTicks, ByDate, kindAt, chainFor}
-use Rattle.model.specs.State.{Slot, Link, slotAt, names, listed}
+use Rattle.model.specs.State.{Slot, Link, slotAt, indexOf, names, Fired, listed}
 use Rattle.model.specs.Words.{first, sumOf, word, field, along, links, read}
 use Rattle.model.specs.Sound.{sound}
-use Rattle.model.specs.Outcome.{outcome, written}
+use Rattle.model.specs.Outcome.{outcome}
 use Rattle.model.specs.History.{Start, Event, changes, lastsAfter, Placed, Waiting, eventOf, eventsOn, perSecond, clockAfter, moves, starts, waits, fires, inChain, left, waiting, entry}
 
 -- Each call gets the table that the last one left.
@@ -46,15 +47,27 @@ pub record Standing (t : List ℕ) (es : List Event) : Type 0 where
   pub rate : perSecond es ≡ word t 1
   pub clock : clockAfter 0 es ≡ cond (eqb (word t 2) 1) (some (word t 3 * word t 1 + word t 4)) none
 
+-- entry number i of a list, three words each: id, then routine and data
+pub record EntryAt (list : List ℕ) (i : ℕ) (f : Fired) : Type 0 where
+  pub id : word list (3 * i) ≡ f .id
+  pub routine : word list (3 * i + 1) ≡ f .routine
+  pub userData : word list (3 * i + 2) ≡ f .userData
+
+-- a list has these entries, in this order, and after them the words with which it was lent
+pub record Begins (list lent : List ℕ) (fs : List Fired) : Type 0 where
+  pub entry : (xs ys : List Fired) (f : Fired) → fs ≡ xs ++ (f ∷ ys) → EntryAt list (length xs) f
+  pub rest : (m : ℕ) → 3 * length fs ≤ m → word list m ≡ word lent m
+  pub as-long : length list ≡ length lent
+
 -- What the accepted call c, which is the event e, has to list on the table t after these events: the timers that fire in it, those due in this
--- call and not ended before, interval ones first, each kind in firing order. A tick and a set clock answer their number, any other call lists
--- nothing, and there are never more than slots.
+-- call and not ended before, interval ones first, each kind in firing order. A tick and a set clock answer their number, no other call fires
+-- any, and there are never more than slots.
 pub record Lists (t : List ℕ) (es : List Event) (c : Call) (e : Event) : Type 0 where
   pub ticking : List Placed
   pub dated : List Placed
   pub ticking-order : InOrder left (keep (inChain ByTicks) (keep (fires e) (starts es))) ticking
   pub dated-order : InOrder left (keep (inChain ByDate) (keep (fires e) (starts es))) dated
-  pub entries : outcome t c .list ≡ written (map entry (ticking ++ dated)) (lentTo c)
+  pub entries : Begins (outcome t c .list) (lentTo c) (map entry (ticking ++ dated))
   pub counted : moves e ≡ true → outcome t c .answer ≡ length (ticking ++ dated) ∷ []
   pub quiet : moves e ≡ false → ticking ++ dated ≡ []
   pub few : length (ticking ++ dated) ≤ word t 0
@@ -66,6 +79,12 @@ firstNumber answer = getD answer 0 0
 -- What is demanded of the call c, which is the event e where it is accepted, on the table t after these events.
 pub record Answers (t : List ℕ) (es : List Event) (c : Call) (e : Event) : Type 0 where
   pub lists : outcome t c .status ≡ 0 → Lists t es c e
+  -- A tick and a set clock are lent that list, no other call is.
+  pub lent-tick : (list : List ℕ) → c ≡ tick list → lentTo c ≡ list
+  pub lent-set : (w : WallTime) (list : List ℕ) → c ≡ setClock w list → lentTo c ≡ list
+  -- A cancelled timer waits no more.
+  pub cancels : (id : ℕ) → c ≡ cancel id → outcome t c .status ≡ 0
+      → sumOf (λ _ l. count (λ w. eqb (w .slot) (indexOf id)) l) (read (outcome t c .table)) ≡ 0
   -- An accepted reset is a start for ticks, of that timer's last start.
   pub restarts : (id : ℕ) → c ≡ reset id → outcome t c .status ≡ 0
       → (s : Start) × (e ≡ changes id (some s)) × (s .id ≡ id) × (chainFor (s .mode) ≡ ByTicks)
@@ -73,6 +92,9 @@ pub record Answers (t : List ℕ) (es : List Event) (c : Call) (e : Event) : Typ
   pub lasts : outcome t c .status ≡ 0 → (id : ℕ)
       → names (read (outcome t c .table)) id ≡ lastsAfter c (firstNumber (outcome t c .answer)) id (names (read t) id)
   pub anew : (name : ℕ) → c ≡ create name → outcome t c .status ≡ 0 → names (read t) (firstNumber (outcome t c .answer)) ≡ false
+  -- Words past 10 + 8N are never changed.
+  pub size : length (outcome t c .table) ≡ length t
+  pub beyond : (m : ℕ) → 10 + 8 * word (outcome t c .table) 0 ≤ m → word (outcome t c .table) m ≡ word t m
   -- A refused call changes no word of the table or of the list that it was lent, and answers zero.
   pub refuses : (outcome t c .status ≡ 0 → ⊥)
       → (outcome t c .table ≡ t) × (outcome t c .list ≡ lentTo c) × (outcome t c .answer ≡ replicate (answerCount c) 0)
