@@ -19,6 +19,10 @@ pub record Outcome : Type 0 where
   pub table : List ℕ
   pub list : List ℕ
 
+-- the outcome with this status, answer, table and list
+abbrev pub outcomeOf : ℕ → List ℕ → List ℕ → List ℕ → Outcome
+outcomeOf status answer table list = record { status = status; answer = answer; table = table; list = list }
+
 -- Each number is given exactly when its rule says so, the first rule that applies; 0 when none does.
 unfoldable pub statusOn : List ℕ → Call → ℕ
 statusOn t c = firstOf (refusals (not (sound t)) (read t) c)
