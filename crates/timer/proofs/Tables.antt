@@ -1,52 +1,24 @@
--- What the calls do to a sound table, from what the steps below them did to it: a slot that an id names, a slot stored, a timer deleted,
--- a slice laid out. Assumes nothing.
+-- What the calls do to a table, from what the steps below them did to it: a slot stored, a timer deleted, a slice laid out. Assumes nothing.
 use mathlib.Core.Path.{_≡_, refl, sym, ap, ap₂, _∙_}
-use Prim.Native.Nat.{ℕ, zero, suc, _+_, _*_, _≤_}
+use Prim.Native.Nat.{ℕ, zero, suc, _+_, _*_}
 use native.Mathlib.Omega.{arith}
-use mathlib.Core.Bool.{true, false, not}
+use mathlib.Core.Bool.{true}
 use mathlib.Core.List.{List, [], _∷_, _++_}
 use lib.ListN.{length, set, drop, replicate, length-replicate}
 use lib.Dec.{eqb}
 use Rattle.model.specs.declared.Chain.the-variants.{ByTicks, ByDate}
-use Rattle.model.specs.State.{Slot, Link, State, rechain, free, slotAt, without, indexOf, names}
+use Rattle.model.specs.State.{Slot, Link, State, rechain, free, slotAt, without}
 use Rattle.model.specs.Directives.{laidOut, lowestFree, stored, unused, stopped, idled}
-use Rattle.model.specs.Words.{slotWords, allSlots, write, over, word, read}
+use Rattle.model.specs.Words.{slotWords, allSlots, write, over, read}
 use Rattle.model.specs.Sound.{sound}
 use Rattle.model.proofs.Slots.{put-put}
 use Rattle.model.proofs.Searches.{found}
 use Rattle.model.proofs.ReadBack.{slots-length, over-over}
-use Rattle.model.proofs.SoundHolds.{sound-holds, sound-header}
+use Rattle.model.proofs.SoundHolds.{sound-holds}
 use Rattle.model.proofs.Steps.{length-stored}
 use Rattle.links.specs.Places.{InTable}
 use Rattle.links.proofs.NextState.{next-read}
 use Rattle.links.proofs.Restart.{stoppedAt, stop-next, idle-now}
-use Rattle.slots.specs.Search.{namedSlot}
-use Rattle.slots.proofs.Laws.{named-some, named-none}
-
--- ---- the slot that an id names: what its rule says, where it is, and that its words are in the slice
-
-pub record Named (t : List ℕ) (id i : ℕ) : Type 0 where
-  pub rule : not (names (read t) id) ≡ false
-  pub index : i ≡ indexOf id
-  pub place : InTable t i
-  pub inside : 8 * i + 10 ≤ length t
-
-pub named : {t : List ℕ} {id i : ℕ} → sound t ≡ true → i ≡ namedSlot t id → (i ≡ 0 → ⊥) → Named t id i
-named {t} {id} {i} ok e some =
-    let m = named-some t id i e some in
-    record {
-      rule = ap not (m .names-one);
-      index = m .index;
-      place = record { holds = sound-holds t ok; low = m .low; high = m .high };
-      inside = omega (arith, sound-header t ok .long, m .high);
-    }
-
-pub unknown : (t : List ℕ) (id : ℕ) {i : ℕ} → i ≡ namedSlot t id → i ≡ 0 → not (names (read t) id) ≡ true
-unknown t id {i} e z = ap not (named-none t id i e z)
-
--- what was done at the slot was done at the id's index
-pub at-index : {t : List ℕ} {id i : ℕ} (f : ℕ → State) {u : List ℕ} → Named t id i → u ≡ over (f i) t → u ≡ over (f (indexOf id)) t
-at-index {t} f at e = e ∙ ap (λ (k : ℕ). over (f k) t) (at .index)
 
 -- ---- create and delete, on a sound table
 

@@ -5,8 +5,8 @@ use mathlib.Core.Path.{refl}
 use Prim.Native.Nat.{ℕ}
 use Rattle.model.specs.declared.Status.the-variants.{InvalidId, NotSound}
 use Rattle.links.proofs.Restart.{stoppedAt}
-use Rattle.timer.proofs.Replies.{Tested, tested, not-same, refuses, done}
-use Rattle.timer.proofs.Tables.{Named, named, unknown, at-index}
+use Rattle.answers.proofs.Replies.{Tested, tested, not-same, refuses, done}
+use Rattle.answers.proofs.Ids.{Named, named, unknown, at-index}
 use Rattle.timer.proofs.cancel.Statement.{statement}
 use Rattle.timer.proofs.cancel.Tie as tie
 

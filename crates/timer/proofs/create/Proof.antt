@@ -7,7 +7,7 @@ use Prim.Native.Nat.{ℕ}
 use native.Mathlib.Omega.{arith}
 use Rattle.model.specs.declared.Status.the-variants.{InvalidName, TooMany, NotSound}
 use Rattle.model.proofs.SoundHolds.{sound-header}
-use Rattle.timer.proofs.Replies.{Tested, tested, not-same, refuses, done}
+use Rattle.answers.proofs.Replies.{Tested, tested, not-same, refuses, done}
 use Rattle.timer.proofs.Lookups.{none-found, some-found, id-found, is-free}
 use Rattle.timer.proofs.Tables.{free-in-table, created-is}
 use Rattle.timer.proofs.create.Statement.{statement}

@@ -7,8 +7,9 @@ use Rattle.model.specs.declared.Status.the-variants.{InvalidId, NotSound}
 use Rattle.model.specs.State.{free}
 use Rattle.model.specs.Directives.{stopped}
 use Rattle.model.specs.Words.{read}
-use Rattle.timer.proofs.Replies.{Tested, tested, not-same, refuses, done}
-use Rattle.timer.proofs.Tables.{Named, named, unknown, at-index, still-in-table, deleted-is}
+use Rattle.answers.proofs.Replies.{Tested, tested, not-same, refuses, done}
+use Rattle.answers.proofs.Ids.{Named, named, unknown, at-index}
+use Rattle.timer.proofs.Tables.{still-in-table, deleted-is}
 use Rattle.timer.proofs.delete.Statement.{statement}
 use Rattle.timer.proofs.delete.Tie as tie
 

@@ -7,7 +7,7 @@ use Prim.Native.Nat.{ℕ}
 use native.Mathlib.Omega.{arith}
 use Rattle.model.specs.declared.Status.the-variants.{InvalidName, NotSound}
 use Rattle.model.proofs.SoundHolds.{sound-header}
-use Rattle.timer.proofs.Replies.{Tested, tested, not-same, refuses, done, same-table}
+use Rattle.answers.proofs.Replies.{Tested, tested, not-same, refuses, done, same-table}
 use Rattle.timer.proofs.Lookups.{none-found, some-found, id-found, is-named, name-high}
 use Rattle.timer.proofs.ident.Statement.{statement}
 use Rattle.timer.proofs.ident.Tie as tie

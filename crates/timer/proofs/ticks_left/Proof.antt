@@ -5,9 +5,9 @@ use mathlib.Core.Path.{refl, sym, _∙_}
 use Prim.Native.Nat.{ℕ}
 use native.Mathlib.Omega.{arith}
 use Rattle.model.specs.declared.Status.the-variants.{InvalidId, NotSound}
-use Rattle.timer.proofs.Replies.{Tested, tested, not-same, refuses, done, same-table}
-use Rattle.timer.proofs.Tables.{Named, named, unknown}
-use Rattle.timer.proofs.SlotWords.{no-ticks, ticks-met, some-ticks}
+use Rattle.answers.proofs.Replies.{Tested, tested, not-same, refuses, done, same-table}
+use Rattle.answers.proofs.Ids.{Named, named, unknown}
+use Rattle.timer.proofs.TicksLeft.{no-ticks, ticks-met, some-ticks}
 use Rattle.timer.proofs.ticks_left.Statement.{statement}
 use Rattle.timer.proofs.ticks_left.Tie as tie
 

@@ -1,0 +1,37 @@
+-- The slot that an id names: what its rule says, where it is, and that its words are in the slice. Assumes nothing.
+use mathlib.Core.Path.{_≡_, ap, _∙_}
+use Prim.Native.Nat.{ℕ, _+_, _*_, _≤_}
+use native.Mathlib.Omega.{arith}
+use mathlib.Core.Bool.{true, false, not}
+use mathlib.Core.List.{List}
+use lib.ListN.{length}
+use Rattle.model.specs.State.{State, indexOf, names}
+use Rattle.model.specs.Words.{over, read}
+use Rattle.model.specs.Sound.{sound}
+use Rattle.model.proofs.SoundHolds.{sound-holds, sound-header}
+use Rattle.links.specs.Places.{InTable}
+use Rattle.slots.specs.Search.{namedSlot}
+use Rattle.slots.proofs.Laws.{named-some, named-none}
+
+pub record Named (t : List ℕ) (id i : ℕ) : Type 0 where
+  pub rule : not (names (read t) id) ≡ false
+  pub index : i ≡ indexOf id
+  pub place : InTable t i
+  pub inside : 8 * i + 10 ≤ length t
+
+pub named : {t : List ℕ} {id i : ℕ} → sound t ≡ true → i ≡ namedSlot t id → (i ≡ 0 → ⊥) → Named t id i
+named {t} {id} {i} ok e some =
+    let m = named-some t id i e some in
+    record {
+      rule = ap not (m .names-one);
+      index = m .index;
+      place = record { holds = sound-holds t ok; low = m .low; high = m .high };
+      inside = omega (arith, sound-header t ok .long, m .high);
+    }
+
+pub unknown : (t : List ℕ) (id : ℕ) {i : ℕ} → i ≡ namedSlot t id → i ≡ 0 → not (names (read t) id) ≡ true
+unknown t id {i} e z = ap not (named-none t id i e z)
+
+-- what was done at the slot was done at the id's index
+pub at-index : {t : List ℕ} {id i : ℕ} (f : ℕ → State) {u : List ℕ} → Named t id i → u ≡ over (f i) t → u ≡ over (f (indexOf id)) t
+at-index {t} f at e = e ∙ ap (λ (k : ℕ). over (f k) t) (at .index)
