@@ -13,7 +13,11 @@ use Rattle.model.specs.Kinds.{Kind, is, kinds, kindAt, isIn, waitsIn, isSome, w
 use Rattle.model.proofs.ListLaws.{cases}
 use Rattle.model.proofs.Each.{Each, end, _&_}
 use Rattle.model.proofs.KindLaws.{kind-law}
-use Rattle.table.specs.Walks.{kindIn}
+
+-- the kind of a slot that waits in chain k
+abbrev pub kindIn : Chain → ℕ
+kindIn ByTicks = 4
+kindIn ByDate = 5
 
 -- a test on what a kind says is a test on its number
 number : (f : Kind → Bool) (g : ℕ → Bool) → Each (λ n x. f x ≡ g n) 0 kinds → ((n : ℕ) → 5 < n → f (is none n n none) ≡ g n) → (n : ℕ) → f (kindAt n) ≡ g n

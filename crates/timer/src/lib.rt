@@ -29,6 +29,7 @@ use slots::ID_BASE;
 use slots::clear;
 use slots::find;
 use slots::named;
+use soundness::is_sound;
 use table::*;
 
 // What a call answers: done, with the answer's number, or refused.
