@@ -105,7 +105,7 @@ pub fn create(table: &mut [u32], name: u32) -> Answer
     if name == 0 {
         return Answer::Refused(Status::InvalidName);
     }
-    let i = find(table, KIND, FREE);
+    let i = find(table, KIND, FREE, 1, table[SLOT_COUNT]);
     if i == 0 {
         return Answer::Refused(Status::TooMany);
     }
@@ -123,7 +123,7 @@ pub fn ident(table: &[u32], name: u32) -> Answer
     if name == 0 {
         return Answer::Refused(Status::InvalidName);
     }
-    let i = find(table, NAME, name);
+    let i = find(table, NAME, name, 1, table[SLOT_COUNT]);
     if i == 0 {
         return Answer::Refused(Status::InvalidName);
     }
