@@ -1,8 +1,8 @@
--- The check decides soundness: StepTests has what the tests of a step say; Sums and Steps why a walk that ends meets each slot once; Walked that a
--- walk decides its chain; Follows that what is not tested follows; Pass that the pass decides the whole.
+-- The check decides soundness. In reading order: what the tests of a step say; how often numbers stand in a list, summed; a walk that ends meets no
+-- slot twice; so a walk decides its chain; what is not tested follows; the pass decides the whole.
 pub mod StepTests
-pub mod Sums
-pub mod Steps
-pub mod Walked
-pub mod Follows
-pub mod Pass
+pub mod CountsAddUp
+pub mod NoSlotTwice
+pub mod WalkDecidesChain
+pub mod UntestedFollows
+pub mod OnePass

@@ -9,8 +9,8 @@ use Rattle.model.specs.declared.Chain.{Chain}
 use Rattle.model.specs.declared.Chain.the-variants.{ByTicks, ByDate}
 use Rattle.model.specs.Words.{field}
 use Rattle.model.proofs.ListLaws.{both, and-both, all-at, all-true}
+use Rattle.word_checks.proofs.BooleanTests.{never}
 use Rattle.soundness.specs.Walks.{Stand, linkTested, waitTested, stepTested}
-use Rattle.word_checks.proofs.Tests.{never}
 
 pub record InLink (t : List ℕ) (n i p : ℕ) : Type 0 where
   pub low : 1 ≤ i

@@ -1,5 +1,5 @@
 -- The soundness check as the code makes it: one pass over the slots, in which each waiting slot pays for one step along its chain.
--- What is not tested follows from the rest (proofs/Follows.antt). The two chains are one parameter. Assumes nothing: these are definitions.
+-- What is not tested follows from the rest (proofs/UntestedFollows.antt). The two chains are one parameter. Assumes nothing: these are definitions.
 use Prim.Native.Nat.{ℕ, zero, suc, _+_}
 use mathlib.Core.Bool.{Bool, cond, not, _&&_, _||_}
 use mathlib.Core.List.{List, [], _∷_}

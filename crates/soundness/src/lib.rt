@@ -13,7 +13,7 @@
 // kind: so it met each exactly once. If on the other hand the chain is right, it has just as many slots as the pass pays for, no step
 // fails, and the walk ends at 0. Neither a mark for each slot nor a counter is kept, and no word is read that the table does not have.
 //
-// What is left out, since it follows (proofs/Follows.antt):
+// What is left out, since it follows (proofs/UntestedFollows.antt):
 //   that the interval of kind 4 is 1 or more: the walk meets every such slot, with ticks left from 1 up to the interval;
 //   the kind in a step along the interval chain: besides 4 only kind 2 has an interval, and there the pass finds wait and previous 0: it
 //     could only come first, where no ticks are left yet, and so has fewer than 1;

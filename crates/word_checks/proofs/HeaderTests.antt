@@ -11,7 +11,7 @@ use Rattle.model.proofs.ListLaws.{clash, all-at, all-true}
 use Rattle.model.specs.Words.{word}
 use Rattle.model.specs.Sound.{headerSound}
 use Rattle.word_checks.specs.Tested.{allZero}
-use Rattle.word_checks.proofs.Tests.{never}
+use Rattle.word_checks.proofs.BooleanTests.{never}
 
 abbrev headerTests : List ℕ → List Bool
 headerTests t =

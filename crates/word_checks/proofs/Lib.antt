@@ -1,4 +1,4 @@
--- Tests has laws of Boolean tests, HeaderTests and SlotTests what those of the header and of a slot say.
-pub mod Tests
+-- Laws of Boolean tests; what the tests of the header say, and those of a slot.
+pub mod BooleanTests
 pub mod HeaderTests
 pub mod SlotTests

@@ -14,9 +14,9 @@ use Rattle.model.specs.declared.Chain.the-variants.{ByTicks, ByDate}
 use Rattle.model.specs.Kinds.{waits, waitsIn, lastByTicks}
 use Rattle.model.specs.Words.{field}
 use Rattle.model.specs.Sound.{slotSound, unlinked, unstarted}
-use Rattle.word_checks.specs.Tested.{slotTested, slotTestedAs}
-use Rattle.word_checks.proofs.Tests.{fails}
 use Rattle.table.proofs.KindTests.{kind-is, timed-is, linked-is}
+use Rattle.word_checks.specs.Tested.{slotTested, slotTestedAs}
+use Rattle.word_checks.proofs.BooleanTests.{fails}
 
 -- Interval is 1 or more after a start by ticks, zero after one by date.
 abbrev pub intervalSound : Chain → ℕ → Bool

@@ -12,11 +12,11 @@ use Rattle.model.specs.declared.Chain.the-variants.{ByTicks, ByDate}
 use Rattle.model.specs.Words.{word, field}
 use Rattle.model.specs.Sound.{headerSound}
 use Rattle.word_checks.specs.Tested.{slotTested}
-use Rattle.soundness.specs.Walks.{standing, headsTested, stepTested}
-use Rattle.word_checks.proofs.Tests.{passed, failed}
+use Rattle.word_checks.proofs.BooleanTests.{passed, failed}
 use Rattle.word_checks.proofs.HeaderTests.{Ranges, header-ranges}
+use Rattle.soundness.specs.Walks.{standing, headsTested, stepTested}
 use Rattle.soundness.proofs.StepTests.{in-ticks, in-dates}
-use Rattle.soundness.proofs.Pass.{Passing, header-false, heads-false, begin, at-end, inside, fewer, slot-fails, pass-other, tick-fails, pass-tick, date-fails, pass-date}
+use Rattle.soundness.proofs.OnePass.{Passing, header-false, heads-false, begin, at-end, inside, fewer, slot-fails, pass-other, tick-fails, pass-tick, date-fails, pass-date}
 use Rattle.soundness.proofs.is_sound.Statement.{statement}
 use Rattle.soundness.proofs.is_sound.Tie as tie
 

@@ -1,5 +1,5 @@
 -- `word_checks::all_six_zero` meets its contract: no bit of six numbers is set just where all of them are 0. Assumes nothing.
-use Rattle.word_checks.proofs.Tests.{or-zeros}
+use Rattle.word_checks.proofs.BooleanTests.{or-zeros}
 use Rattle.word_checks.proofs.all_six_zero.Statement.{statement}
 use Rattle.word_checks.proofs.all_six_zero.Tie as tie
 

@@ -1,5 +1,5 @@
 -- `word_checks::all_zero` meets its contract: no bit of three numbers is set just where all of them are 0. Assumes nothing.
-use Rattle.word_checks.proofs.Tests.{or-zero}
+use Rattle.word_checks.proofs.BooleanTests.{or-zero}
 use Rattle.word_checks.proofs.all_zero.Statement.{statement}
 use Rattle.word_checks.proofs.all_zero.Tie as tie
 

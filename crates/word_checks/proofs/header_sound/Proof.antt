@@ -2,7 +2,7 @@
 -- Assumes nothing.
 use mathlib.Core.Path.{_∙_}
 use native.Mathlib.Omega.{arith}
-use Rattle.word_checks.proofs.Tests.{passed, failed}
+use Rattle.word_checks.proofs.BooleanTests.{passed, failed}
 use Rattle.word_checks.proofs.HeaderTests.{out-of-range, spare-false, clock-set, clock-not-set}
 use borrow.Author.Needs.{needs}
 use Rattle.word_checks.proofs.header_sound.Statement.{statement}

@@ -3,7 +3,7 @@
 use mathlib.Core.Path.{_∙_}
 use native.Mathlib.Omega.{arith}
 use Rattle.model.specs.declared.Chain.the-variants.{ByTicks, ByDate}
-use Rattle.word_checks.proofs.Tests.{passed, failed}
+use Rattle.word_checks.proofs.BooleanTests.{passed, failed}
 use Rattle.word_checks.proofs.SlotTests.{kind-fails, blank-fails, name-fails, routine-fails, links-fail, free-name, new-name, waiting-ticks, waiting-date, idle-interval}
 use borrow.Author.Needs.{needs}
 use Rattle.word_checks.proofs.slot_tested.Statement.{statement}

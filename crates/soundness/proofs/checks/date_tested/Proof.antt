@@ -1,7 +1,7 @@
 -- `soundness::checks::date_tested` meets its contract: a link that fails fails the step, and else the date decides. Assumes nothing.
 use native.Mathlib.Omega.{arith}
 use Rattle.model.specs.declared.Chain.the-variants.{ByDate}
-use Rattle.word_checks.proofs.Tests.{passed, failed}
+use Rattle.word_checks.proofs.BooleanTests.{passed, failed}
 use Rattle.soundness.proofs.StepTests.{in-link, link-false, dates-rest}
 use Rattle.soundness.proofs.checks.date_tested.Statement.{statement}
 use Rattle.soundness.proofs.checks.date_tested.Tie as tie

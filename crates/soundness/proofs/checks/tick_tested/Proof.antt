@@ -1,7 +1,7 @@
 -- `soundness::checks::tick_tested` meets its contract: a test that fails contradicts what a sound step says, and the last decides. Assumes nothing.
 use native.Mathlib.Omega.{arith}
 use Rattle.model.specs.declared.Chain.the-variants.{ByTicks}
-use Rattle.word_checks.proofs.Tests.{passed, failed}
+use Rattle.word_checks.proofs.BooleanTests.{passed, failed}
 use Rattle.soundness.proofs.StepTests.{in-link, link-false, no-ticks, ticks-rest}
 use borrow.Author.Needs.{needs}
 use Rattle.soundness.proofs.checks.tick_tested.Statement.{statement}

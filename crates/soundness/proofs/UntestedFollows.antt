@@ -22,12 +22,12 @@ use Rattle.model.specs.Sound.{previousSound}
 use Rattle.model.proofs.ListLaws.{cases, both, and-both, or-right, or-else}
 use Rattle.table.proofs.KindTests.{kindIn}
 use Rattle.word_checks.specs.Tested.{slotTested}
-use Rattle.soundness.specs.Walks.{Stand, standing, linkTested, waitTested, stepTested, step, walkTested}
 use Rattle.word_checks.proofs.SlotTests.{tested}
+use Rattle.soundness.specs.Walks.{Stand, standing, linkTested, waitTested, stepTested, step, walkTested}
 use Rattle.soundness.proofs.StepTests.{InTicks, in-ticks, InDates, in-dates, dates-in, link-in}
-use Rattle.soundness.proofs.Sums.{times, none-times}
-use Rattle.soundness.proofs.Steps.{along-first, along-zero}
-use Rattle.soundness.proofs.Walked.{linkSound, waitSound, stepSound, walk, InChain, in-chain, chain-in}
+use Rattle.soundness.proofs.CountsAddUp.{times, none-times}
+use Rattle.soundness.proofs.NoSlotTwice.{along-first, along-zero}
+use Rattle.soundness.proofs.WalkDecidesChain.{linkSound, waitSound, stepSound, walk, InChain, in-chain, chain-in}
 
 module _ (t : List ℕ) where
   abbrev N : ℕ

@@ -1,10 +1,10 @@
--- `links::take_over` meets its contract, by its three cases: no slot, and a slot of either chain. Assumes nothing.
+-- `links::wait_without` meets its contract, by its three cases: no slot, and a slot of either chain. Assumes nothing.
 use native.Mathlib.Omega.{arith}
 use mathlib.Core.Path.{sym, _∙_}
 use borrow.Author.Needs.{needs}
-use Rattle.links.proofs.Surgery.{taken-ticks, taken-date}
-use Rattle.links.proofs.take_over.Statement.{statement}
-use Rattle.links.proofs.take_over.Tie as tie
+use Rattle.links.proofs.EditedWords.{wait-without-ticks, wait-without-date}
+use Rattle.links.proofs.wait_without.Statement.{statement}
+use Rattle.links.proofs.wait_without.Tie as tie
 
 returns : tie.Need-returns
 returns c = search needs
@@ -20,7 +20,7 @@ add-result c =
     let some = c .before .before .before in
     let a = some .before .before .args in
     let fits = some .before .before .pre .1 in
-    omega (arith, c .before .before .get .ensures, taken-ticks (a .t .now) (a .w) (a .n) (some .if1 .left), rw (c .enum-told .given .1) at fits)
+    omega (arith, c .before .before .get .ensures, wait-without-ticks (a .t .now) (a .w) (a .n) (some .if1 .left), rw (c .enum-told .given .1) at fits)
 
 enum-told-2 : tie.Need-enum-told-2
 enum-told-2 c = search needs
@@ -29,14 +29,14 @@ returns-2 : tie.Need-returns-2
 returns-2 c =
     let some = c .before .before .before in
     let a = some .before .before .args in
-    rw (c .enum-told .given .1, c .before .before .get .ensures) (sym (taken-ticks (a .t .now) (a .w) (a .n) (some .if1 .left)))
+    rw (c .enum-told .given .1, c .before .before .get .ensures) (sym (wait-without-ticks (a .t .now) (a .w) (a .n) (some .if1 .left)))
 
 returns-3 : tie.Need-returns-3
 returns-3 c =
     let some = c .before .before .before in
     let a = some .before .before .args in
-    rw (c .enum-told2 .given .1) (c .before .before .get .ensures ∙ sym (taken-date (a .t .now) (a .w) (a .n) (some .if1 .left)))
+    rw (c .enum-told2 .given .1) (c .before .before .get .ensures ∙ sym (wait-without-date (a .t .now) (a .w) (a .n) (some .if1 .left)))
 
-pub take-over-spec : {M : Type 1} → statement M
-take-over-spec =
+pub wait-without-spec : {M : Type 1} → statement M
+wait-without-spec =
     tie.close (tie.spec returns get-requires enum-told add-result enum-told-2 returns-2 returns-3)

@@ -17,17 +17,17 @@ use Rattle.model.specs.Kinds.{waitsIn}
 use Rattle.model.specs.Words.{word, field, headWord, along}
 use Rattle.model.specs.Sound.{headerSound, slotSound, chainSound, sound}
 use Rattle.model.proofs.ListLaws.{cases, both, and-both, or-left, or-right, or-else, all-at, all-true, all-up, up-at}
-use Rattle.word_checks.specs.Tested.{slotTested}
-use Rattle.soundness.specs.Walks.{Stand, standing, start, headsTested, stepTested, step, endTested, walkTested, waiting, leftTested}
-use Rattle.word_checks.proofs.Tests.{same}
 use Rattle.table.proofs.KindTests.{kindIn, is-in, not-in}
+use Rattle.word_checks.specs.Tested.{slotTested}
+use Rattle.word_checks.proofs.BooleanTests.{same}
 use Rattle.word_checks.proofs.HeaderTests.{header-ranges}
-use Rattle.soundness.proofs.StepTests.{in-ticks}
 use Rattle.word_checks.proofs.SlotTests.{tested-sound, sound-tested}
-use Rattle.soundness.proofs.Sums.{times}
-use Rattle.soundness.proofs.Steps.{along-first}
-use Rattle.soundness.proofs.Walked.{waitsSound, walk, walked, met-once}
-use Rattle.soundness.proofs.Follows.{Slots, Apart, Dated, kinds, ticks-whole, ticks-tested, dates-whole, dates-tested, interval-low, stands-behind}
+use Rattle.soundness.specs.Walks.{Stand, standing, start, headsTested, stepTested, step, endTested, walkTested, waiting, leftTested}
+use Rattle.soundness.proofs.StepTests.{in-ticks}
+use Rattle.soundness.proofs.CountsAddUp.{times}
+use Rattle.soundness.proofs.NoSlotTwice.{along-first}
+use Rattle.soundness.proofs.WalkDecidesChain.{waitsSound, walk, walked, met-once}
+use Rattle.soundness.proofs.UntestedFollows.{Slots, Apart, Dated, kinds, ticks-whole, ticks-tested, dates-whole, dates-tested, interval-low, stands-behind}
 
 -- ---- the whole
 

@@ -1,12 +1,12 @@
--- `links::fill` meets its contract: its four stores in order. Assumes nothing.
+-- `links::put_timer` meets its contract: its four stores in order. Assumes nothing.
 use mathlib.Core.Path.{ap, _∙_}
 use mathlib.Core.List.{List}
 use Prim.Native.Nat.{ℕ}
 use lib.ListN.{set}
-use Rattle.links.specs.Surgery.{fieldWord, filled}
+use Rattle.links.specs.EditedWords.{fieldWord, timerPut}
 use borrow.Author.Needs.{needs}
-use Rattle.links.proofs.fill.Statement.{statement}
-use Rattle.links.proofs.fill.Tie as tie
+use Rattle.links.proofs.put_timer.Statement.{statement}
+use Rattle.links.proofs.put_timer.Tie as tie
 
 put-requires : tie.Need-put-requires
 put-requires c κs = search needs
@@ -24,7 +24,7 @@ same-length : tie.Need-same-length
 same-length c = search needs
 
 returns : tie.Need-returns
-unfolding filled
+unfolding timerPut
 returns c =
     let fourth = c .before .before in
     let third = fourth .before .before .before .before in
@@ -36,7 +36,7 @@ returns c =
     ∙ ap (λ (l : List ℕ). set l (fieldWord (a .i) 4) (a .routine)) (second .put2 .ensures
     ∙ ap (λ (l : List ℕ). set l (fieldWord (a .i) 2) (a .interval)) (first .put .ensures)))
 
-pub fill-spec : {M : Type 1} → statement M
-fill-spec =
+pub put-timer-spec : {M : Type 1} → statement M
+put-timer-spec =
     tie.close
     (tie.spec put-requires put-requires-2 put-requires-3 put-requires-4 same-length returns)

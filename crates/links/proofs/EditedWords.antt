@@ -16,7 +16,7 @@ use Rattle.model.specs.Words.{word, field, headWord, slotFrom}
 use Rattle.model.proofs.ListLaws.{cases}
 use Rattle.model.proofs.Each.{end, _&_, each-at}
 use Rattle.model.proofs.Spelling.{linkWord}
-use Rattle.links.specs.Surgery.{fieldWord, joined, threaded, relinked, taken, given, filled}
+use Rattle.links.specs.EditedWords.{fieldWord, followerPut, linksPut, relinked, waitWithout, waitBehind, timerPut}
 
 -- ---- where words stand
 
@@ -56,43 +56,43 @@ pub link-some : (k : Chain) (p : ℕ) → p ≢ 0 → linkWord k p ≡ fieldWord
 link-some k zero n = absurd (n refl)
 link-some k (suc p) n = refl
 
-pub joined-none : (t : List ℕ) (n q v : ℕ) → n ≡ 0 → joined t n q v ≡ t
-unfolding joined
-joined-none t zero q v e = refl
-joined-none t (suc n) q v e = absurd (omega arith)
+pub follower-put-none : (t : List ℕ) (n q v : ℕ) → n ≡ 0 → followerPut t n q v ≡ t
+unfolding followerPut
+follower-put-none t zero q v e = refl
+follower-put-none t (suc n) q v e = absurd (omega arith)
 
-pub joined-some : (t : List ℕ) (n q v : ℕ) → n ≢ 0 → joined t n q v ≡ set (set t (fieldWord n 7) q) (fieldWord n 3) v
-unfolding joined
-joined-some t zero q v e = absurd (e refl)
-joined-some t (suc n) q v e = refl
+pub follower-put-some : (t : List ℕ) (n q v : ℕ) → n ≢ 0 → followerPut t n q v ≡ set (set t (fieldWord n 7) q) (fieldWord n 3) v
+unfolding followerPut
+follower-put-some t zero q v e = absurd (e refl)
+follower-put-some t (suc n) q v e = refl
 
 module _ (t : List ℕ) (w : ℕ) where
-  pub taken-none : (k : Chain) (n : ℕ) → n ≡ 0 → taken k t n w ≡ 0
-  taken-none k zero e = refl
-  taken-none k (suc n) e = absurd (omega arith)
+  pub wait-without-none : (k : Chain) (n : ℕ) → n ≡ 0 → waitWithout k t n w ≡ 0
+  wait-without-none k zero e = refl
+  wait-without-none k (suc n) e = absurd (omega arith)
 
-  pub taken-ticks : (n : ℕ) → n ≢ 0 → taken ByTicks t n w ≡ field t 3 n + w
-  taken-ticks zero e = absurd (e refl)
-  taken-ticks (suc n) e = refl
+  pub wait-without-ticks : (n : ℕ) → n ≢ 0 → waitWithout ByTicks t n w ≡ field t 3 n + w
+  wait-without-ticks zero e = absurd (e refl)
+  wait-without-ticks (suc n) e = refl
 
-  pub taken-date : (n : ℕ) → n ≢ 0 → taken ByDate t n w ≡ field t 3 n
-  taken-date zero e = absurd (e refl)
-  taken-date (suc n) e = refl
+  pub wait-without-date : (n : ℕ) → n ≢ 0 → waitWithout ByDate t n w ≡ field t 3 n
+  wait-without-date zero e = absurd (e refl)
+  wait-without-date (suc n) e = refl
 
-  pub given-ticks : (n : ℕ) → n ≢ 0 → given ByTicks t n w ≡ field t 3 n - w
-  given-ticks zero e = absurd (e refl)
-  given-ticks (suc n) e = refl
+  pub wait-behind-ticks : (n : ℕ) → n ≢ 0 → waitBehind ByTicks t n w ≡ field t 3 n - w
+  wait-behind-ticks zero e = absurd (e refl)
+  wait-behind-ticks (suc n) e = refl
 
-  pub given-date : (n : ℕ) → n ≢ 0 → given ByDate t n w ≡ field t 3 n
-  given-date zero e = absurd (e refl)
-  given-date (suc n) e = refl
+  pub wait-behind-date : (n : ℕ) → n ≢ 0 → waitBehind ByDate t n w ≡ field t 3 n
+  wait-behind-date zero e = absurd (e refl)
+  wait-behind-date (suc n) e = refl
 
 -- a relinking, by its steps
 pub relinked-by : (k : Chain) (t : List ℕ) (p l n q v i w x y : ℕ) {t₁ t₂ t₃ : List ℕ}
-    → t₁ ≡ set t (linkWord k p) l → t₂ ≡ joined t₁ n q v → t₃ ≡ threaded t₂ i w x y → t₃ ≡ relinked k t p l n q v i w x y
+    → t₁ ≡ set t (linkWord k p) l → t₂ ≡ followerPut t₁ n q v → t₃ ≡ linksPut t₂ i w x y → t₃ ≡ relinked k t p l n q v i w x y
 unfolding relinked
 relinked-by k t p l n q v i w x y e f g =
-    g ∙ ap (λ (u : List ℕ). threaded u i w x y) (f ∙ ap (λ (u : List ℕ). joined u n q v) e)
+    g ∙ ap (λ (u : List ℕ). linksPut u i w x y) (f ∙ ap (λ (u : List ℕ). followerPut u n q v) e)
 
 -- ---- an edit
 
@@ -141,54 +141,54 @@ abbrev pub slotList : List ℕ → ℕ → List ℕ
 slotList t i =
     field t 0 i ∷ field t 1 i ∷ field t 2 i ∷ field t 3 i ∷ field t 4 i ∷ field t 5 i ∷ field t 6 i ∷ field t 7 i ∷ []
 
-joined-off : (t : List ℕ) (n q v m : ℕ) → (0 < n → m ≢ fieldWord n 7) → (0 < n → m ≢ fieldWord n 3) → word (joined t n q v) m ≡ word t m
-unfolding joined
-joined-off t zero q v m x y = refl
-joined-off t (suc n) q v m x y =
+follower-put-off : (t : List ℕ) (n q v m : ℕ) → (0 < n → m ≢ fieldWord n 7) → (0 < n → m ≢ fieldWord n 3) → word (followerPut t n q v) m ≡ word t m
+unfolding followerPut
+follower-put-off t zero q v m x y = refl
+follower-put-off t (suc n) q v m x y =
     getD-set-other (set t (fieldWord (suc n) 7) q) (fieldWord (suc n) 3) m v 0 (y (omega arith))
     ∙ getD-set-other t (fieldWord (suc n) 7) m q 0 (x (omega arith))
 
-length-joined : (t : List ℕ) (n q v : ℕ) → length (joined t n q v) ≡ length t
-unfolding joined
-length-joined t zero q v = refl
-length-joined t (suc n) q v = simp length-set
+length-follower-put : (t : List ℕ) (n q v : ℕ) → length (followerPut t n q v) ≡ length t
+unfolding followerPut
+length-follower-put t zero q v = refl
+length-follower-put t (suc n) q v = simp length-set
 
-joined-previous : (t : List ℕ) (n q v : ℕ) → 0 < n → 8 * n + 10 ≤ length t → field (joined t n q v) 7 n ≡ q
-unfolding joined
-joined-previous t zero q v h l = absurd (omega arith)
-joined-previous t (suc n) q v h l =
+follower-put-previous : (t : List ℕ) (n q v : ℕ) → 0 < n → 8 * n + 10 ≤ length t → field (followerPut t n q v) 7 n ≡ q
+unfolding followerPut
+follower-put-previous t zero q v h l = absurd (omega arith)
+follower-put-previous t (suc n) q v h l =
     getD-set-other (set t (fieldWord (suc n) 7) q) (fieldWord (suc n) 3) (fieldWord (suc n) 7) v 0 (omega arith)
     ∙ getD-set-same t (fieldWord (suc n) 7) q 0 (omega arith)
 
-joined-wait : (t : List ℕ) (n q v : ℕ) → 0 < n → 8 * n + 10 ≤ length t → field (joined t n q v) 3 n ≡ v
-unfolding joined
-joined-wait t zero q v h l = absurd (omega arith)
-joined-wait t (suc n) q v h l =
+follower-put-wait : (t : List ℕ) (n q v : ℕ) → 0 < n → 8 * n + 10 ≤ length t → field (followerPut t n q v) 3 n ≡ v
+unfolding followerPut
+follower-put-wait t zero q v h l = absurd (omega arith)
+follower-put-wait t (suc n) q v h l =
     getD-set-same (set t (fieldWord (suc n) 7) q) (fieldWord (suc n) 3) v 0 (omega (arith, length-set t (fieldWord (suc n) 7) q))
 
 module _ (k : Chain) (t : List ℕ) (p l n q v i : ℕ) (low : 0 < i) (not-before : i ≢ p) (not-behind : i ≢ n)
     (before : 8 * p + 10 ≤ length t) (behind : 8 * n + 10 ≤ length t) (here : 8 * i + 10 ≤ length t) where
-  joined-edit : Edit k t (joined (set t (linkWord k p) l) n q v) p l n q v i (slotList t i)
-  joined-edit =
+  follower-put-edit : Edit k t (followerPut (set t (linkWord k p) l) n q v) p l n q v i (slotList t i)
+  follower-put-edit =
       let u = set t (linkWord k p) l in
       let same : length u ≡ length t = length-set t (linkWord k p) l in
       let off-link : (f : ℕ) → 0 < n → f < 8 → f ≢ 6 → linkWord k p ≢ fieldWord n f =
       λ f h f8 f6 r. field-off-link k p n f h f8 (λ z. absurd (f6 z)) (sym r) in
-      let kept : (f : ℕ) → f < 8 → field (joined u n q v) f i ≡ field t f i =
-      λ f f8. joined-off u n q v (fieldWord i f) (λ _. omega arith) (λ _. omega arith)
+      let kept : (f : ℕ) → f < 8 → field (followerPut u n q v) f i ≡ field t f i =
+      λ f f8. follower-put-off u n q v (fieldWord i f) (λ _. omega arith) (λ _. omega arith)
       ∙ getD-set-other t (linkWord k p) (fieldWord i f) l 0 (field-off-link k p i f low f8 (λ _. not-before)) in
       record {
         low = low;
         not-before = not-before;
         not-behind = not-behind;
         here = here;
-        long = length-joined u n q v ∙ same;
-        off = λ m a b c d. joined-off u n q v m b c ∙ getD-set-other t (linkWord k p) m l 0 a;
-        link = joined-off u n q v (linkWord k p) (λ h. off-link 7 h (omega arith) (omega arith)) (λ h. off-link 3 h (omega arith) (omega arith))
+        long = length-follower-put u n q v ∙ same;
+        off = λ m a b c d. follower-put-off u n q v m b c ∙ getD-set-other t (linkWord k p) m l 0 a;
+        link = follower-put-off u n q v (linkWord k p) (λ h. off-link 7 h (omega arith) (omega arith)) (λ h. off-link 3 h (omega arith) (omega arith))
             ∙ getD-set-same t (linkWord k p) l 0 (link-inside k p (length t) before);
-        previous = λ h. joined-previous u n q v h (omega arith);
-        wait = λ h. joined-wait u n q v h (omega arith);
-        own = each-at (λ f x. field (joined u n q v) f i ≡ x) 0 (slotList t i) (
+        previous = λ h. follower-put-previous u n q v h (omega arith);
+        wait = λ h. follower-put-wait u n q v h (omega arith);
+        own = each-at (λ f x. field (followerPut u n q v) f i ≡ x) 0 (slotList t i) (
             kept 0 (omega arith)
             & kept 1 (omega arith)
             & kept 2 (omega arith)
@@ -202,15 +202,15 @@ module _ (k : Chain) (t : List ℕ) (p l n q v i : ℕ) (low : 0 < i) (not-befor
 
   module _ (w x y : ℕ) where
     pub relinked-edit : Edit k t (relinked k t p l n q v i w x y) p l n q v i (set (set (set (slotList t i) 3 w) 6 x) 7 y)
-    unfolding relinked threaded
+    unfolding relinked linksPut
     relinked-edit =
-        edit-set 7 y (omega arith) (omega arith) (edit-set 6 x (omega arith) (omega arith) (edit-set 3 w (omega arith) (omega arith) joined-edit))
+        edit-set 7 y (omega arith) (omega arith) (edit-set 6 x (omega arith) (omega arith) (edit-set 3 w (omega arith) (omega arith) follower-put-edit))
 
 -- kind, interval, routine and user data of the slot
-pub filled-edit : {k : Chain} {t u : List ℕ} {p l n q v i : ℕ} {ws : List ℕ} (a b c d : ℕ) → length ws ≡ 8 → Edit k t u p l n q v i ws
-    → Edit k t (filled u i a b c d) p l n q v i (set (set (set (set ws 0 a) 2 b) 4 c) 5 d)
-unfolding filled
-filled-edit {ws = ws} a b c d e h =
+pub timer-put-edit : {k : Chain} {t u : List ℕ} {p l n q v i : ℕ} {ws : List ℕ} (a b c d : ℕ) → length ws ≡ 8 → Edit k t u p l n q v i ws
+    → Edit k t (timerPut u i a b c d) p l n q v i (set (set (set (set ws 0 a) 2 b) 4 c) 5 d)
+unfolding timerPut
+timer-put-edit {ws = ws} a b c d e h =
     let l0 = length-set ws 0 a in
     let l2 = length-set (set ws 0 a) 2 b in
     let l4 = length-set (set (set ws 0 a) 2 b) 4 c in

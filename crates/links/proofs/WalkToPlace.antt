@@ -16,7 +16,7 @@ use Rattle.model.proofs.ListLaws.{all-append}
 use Rattle.model.proofs.WellFormed.{Holds}
 use Rattle.model.proofs.Spelling.{linkWord, Stands, holds-parts}
 use Rattle.links.specs.Places.{At, upTo, lastSlot, lastWait}
-use Rattle.links.proofs.Middle.{last-slot, last-wait, mid-stands, mid-own, last-low}
+use Rattle.links.proofs.LinkInMiddle.{last-slot, last-wait, mid-stands, mid-own, last-low}
 use Rattle.links.proofs.Positions.{position, last-of}
 
 -- ---- what is left

@@ -1,4 +1,4 @@
--- A waiting timer stops: its slot taken out of the chain `xs ++ e ∷ ys` is one edit of the table, which then holds the stopped state.
+-- A waiting timer stops: its slot extracted from the chain `xs ++ e ∷ ys` is one edit of the table, which then holds the stopped state.
 -- A timer that does not wait is stopped already. Assumes nothing.
 use mathlib.Core.Path.{_≡_, refl, sym, ap, ap₂, _∙_, subst}
 use mathlib.Core.Logic.{_≢_}
@@ -22,19 +22,19 @@ use Rattle.table.proofs.KindTests.{not-in}
 use Rattle.model.proofs.Spelling.{holds-parts, Linked, holds-linked}
 use Rattle.model.proofs.ReadBack.{slots-length, slot-read}
 use Rattle.model.proofs.Steps.{chained-stopped}
-use Rattle.links.specs.Surgery.{fieldWord, relinked, taken, cutOut, Cuttable}
+use Rattle.links.specs.EditedWords.{fieldWord, relinked, waitWithout, extractedWords, Extractable}
 use Rattle.links.specs.Places.{lastSlot, lastWait, InTable}
-use Rattle.links.proofs.Middle.{times-at, Split, split, all-mid, sorted-next, linked-back, mid-stands, mid-once, mid-apart, mid-within, mid-sorted, last-low}
-use Rattle.links.proofs.Surgery.{taken-none, taken-ticks, taken-date, edit-set, relinked-edit}
+use Rattle.links.proofs.LinkInMiddle.{times-at, Split, split, all-mid, sorted-next, linked-back, mid-stands, mid-once, mid-apart, mid-within, mid-sorted, last-low}
+use Rattle.links.proofs.EditedWords.{wait-without-none, wait-without-ticks, wait-without-date, edit-set, relinked-edit}
 use Rattle.links.proofs.Relinked.{times-but, Around, own-within, own-not-last, own-not-first, last-high, first-high, behind-within, led-front, led-back, edited}
 
 -- ---- one chain
 
 -- a wait of the slot behind, after the slot before it left
-taken-is : (k : Chain) (t : List ℕ) (n w a b c : ℕ) → n ≢ 0 → field t 3 n ≡ difference k b c → w ≡ difference k a b → a ≤ b → b ≤ c
-    → taken k t n w ≡ difference k a c
-taken-is ByTicks t n w a b c h e f p q = omega (arith, taken-ticks t w n h)
-taken-is ByDate t n w a b c h e f p q = taken-date t w n h ∙ e
+wait-without-is : (k : Chain) (t : List ℕ) (n w a b c : ℕ) → n ≢ 0 → field t 3 n ≡ difference k b c → w ≡ difference k a b → a ≤ b → b ≤ c
+    → waitWithout k t n w ≡ difference k a c
+wait-without-is ByTicks t n w a b c h e f p q = omega (arith, wait-without-ticks t w n h)
+wait-without-is ByDate t n w a b c h e f p q = wait-without-date t w n h ∙ e
 
 -- a state whose slot i is only in chain k
 stopped-as : (k : Chain) (s : State) (i : ℕ) (x : Slot) (c : List Link) → without i (chainOf k s) ≡ c
@@ -67,24 +67,24 @@ module _ (k : Chain) (t : List ℕ) (s : State) (h : Holds t s) (xs : List Link)
   rest-linked : Linked k t (e .slot) (e .wait) ys
   rest-linked = linked-back k t 0 0 xs e ys (subst (Linked k t 0 0) whole (holds-linked t s h k))
 
-  -- what the slot behind takes over
-  taken-over : (y : Link) (zs : List Link) → ys ≡ y ∷ zs → taken k t (first ys) (field t 3 (e .slot)) ≡ difference k (lastWait 0 xs) (y .wait)
-  taken-over y zs q =
+  -- the wait of the slot behind
+  follower-wait : (y : Link) (zs : List Link) → ys ≡ y ∷ zs → waitWithout k t (first ys) (field t 3 (e .slot)) ≡ difference k (lastWait 0 xs) (y .wait)
+  follower-wait y zs q =
       let rest = subst (Linked k t (e .slot) (e .wait)) q rest-linked in
-      ap (λ (c : List Link). taken k t (first c) (field t 3 (e .slot))) q
-      ∙ taken-is k t (y .slot) (field t 3 (e .slot)) (lastWait 0 xs) (e .wait) (y .wait) (λ z. omega (arith, behind-within around y zs q .0))
+      ap (λ (c : List Link). waitWithout k t (first c) (field t 3 (e .slot))) q
+      ∙ wait-without-is k t (y .slot) (field t 3 (e .slot)) (lastWait 0 xs) (e .wait) (y .wait) (λ z. omega (arith, behind-within around y zs q .0))
       (rest .0 .wait) (mid-stands k t s h xs e ys whole .wait) (last-low k t s h xs e ys whole)
       (sorted-next xs e y zs (subst (λ (c : List Link). Sorted (λ w. w .wait) (xs ++ e ∷ c)) q (mid-sorted k t s h xs e ys whole)))
 
   module _ (fits : (m : ℕ) → word t m < 4294967296) where
-    -- what the slot behind takes over fits a word
-    taken-fits : (m : Chain) → m ≡ k → (zs : List Link) → ys ≡ zs → taken k t (first ys) (field t 3 (e .slot)) < 4294967296
-    taken-fits m c [] q = omega (arith, taken-none t (field t 3 (e .slot)) k (first ys) (ap first q))
-    taken-fits ByDate c (y ∷ zs) q =
+    -- the wait of the slot behind fits a word
+    follower-wait-fits : (m : Chain) → m ≡ k → (zs : List Link) → ys ≡ zs → waitWithout k t (first ys) (field t 3 (e .slot)) < 4294967296
+    follower-wait-fits m c [] q = omega (arith, wait-without-none t (field t 3 (e .slot)) k (first ys) (ap first q))
+    follower-wait-fits ByDate c (y ∷ zs) q =
         let rest = subst (Linked k t (e .slot) (e .wait)) q rest-linked in
         let is : field t 3 (y .slot) ≡ y .wait = rest .0 .wait ∙ ap (λ (m : Chain). difference m (e .wait) (y .wait)) (sym c) in
-        omega (arith, taken-over y zs q, is, fits (fieldWord (y .slot) 3), ap (λ (m : Chain). difference m (lastWait 0 xs) (y .wait)) (sym c))
-    taken-fits ByTicks c (y ∷ zs) q =
+        omega (arith, follower-wait y zs q, is, fits (fieldWord (y .slot) 3), ap (λ (m : Chain). difference m (lastWait 0 xs) (y .wait)) (sym c))
+    follower-wait-fits ByTicks c (y ∷ zs) q =
         let whole′ : s .ticking ≡ (xs ++ e ∷ []) ++ y ∷ zs =
         subst (λ (m : Chain). chainOf m s ≡ xs ++ e ∷ ys) (sym c) whole ∙ ap (λ (l : List Link). xs ++ e ∷ l) q ∙ sym (append-assoc xs (e ∷ []) (y ∷ zs)) in
         let below : y .wait ≤ slotAt (s .slots) (y .slot) .interval =
@@ -93,25 +93,25 @@ module _ (k : Chain) (t : List ℕ) (s : State) (h : Holds t s) (xs : List Link)
         let is = holds-parts t s h .slots (y .slot) (behind-within around y zs q .0) (behind-within around y zs q .1) in
         omega (
           arith,
-          taken-over y zs q,
+          follower-wait y zs q,
           below,
           ap (λ (x : Slot). x .interval) is,
           fits (fieldWord (y .slot) 2),
           ap (λ (m : Chain). difference m (lastWait 0 xs) (y .wait)) (sym c),
         )
 
-    cuttable-mid : Cuttable k t (e .slot)
-    cuttable-mid =
+    extractable-mid : Extractable k t (e .slot)
+    extractable-mid =
         let stands = mid-stands k t s h xs e ys whole in
         record {
           here = omega (arith, own-within around .1, h .long);
           behind = omega (arith, stands .next, first-high around, h .long);
           before = omega (arith, stands .previous, last-high around, h .long);
-          fits = rw (stands .next) (taken-fits k refl ys refl);
+          fits = rw (stands .next) (follower-wait-fits k refl ys refl);
         }
 
   stop-mid : (v : ℕ) → v ≡ kindAt (slotAt (s .slots) (e .slot) .kind) .stopped → without (e .slot) (chainOf k s) ≡ xs ++ ys
-      → set (cutOut k t (e .slot)) (fieldWord (e .slot) 0) v ≡ over (stopped s (e .slot) (idled (slotAt (s .slots) (e .slot)))) t
+      → set (extractedWords k t (e .slot)) (fieldWord (e .slot) 0) v ≡ over (stopped s (e .slot) (idled (slotAt (s .slots) (e .slot)))) t
   stop-mid v idle rest =
       let i = e .slot in
       let p = lastSlot 0 xs in
@@ -123,12 +123,12 @@ module _ (k : Chain) (t : List ℕ) (s : State) (h : Holds t s) (xs : List Link)
       let new : record { kind = v; name = field t 1 i; interval = field t 2 i; routine = field t 4 i; userData = field t 5 i } ≡ idled x =
       λ d. record { kind = idle d; name = old d .name; interval = old d .interval; routine = old d .routine; userData = old d .userData } in
       let edit = edit-set 0 v (omega arith) (omega arith)
-      (relinked-edit k t p n n p (taken k t n (field t 3 i)) i (own .0) (own-not-last around) (own-not-first around)
+      (relinked-edit k t p n n p (waitWithout k t n (field t 3 i)) i (own .0) (own-not-last around) (own-not-first around)
       (omega (arith, last-high around, h .long)) (omega (arith, first-high around, h .long)) (omega (arith, own .1, h .long)) 0 0 0) in
-      ap₂ (λ (a b : ℕ). set (relinked k t a b b a (taken k t b (field t 3 i)) i 0 0 0) (fieldWord i 0) v) (stands .previous) (stands .next)
+      ap₂ (λ (a b : ℕ). set (relinked k t a b b a (waitWithout k t b (field t 3 i)) i 0 0 0) (fieldWord i 0) v) (stands .previous) (stands .next)
       ∙ edited h around edit (xs ++ ys)
       (led-front h around edit (e ∷ ys) ys whole
-      (record { link = edit .link; linked = led-back h around edit (e .slot) (e .wait) (lastWait 0 xs) taken-over rest-linked }))
+      (record { link = edit .link; linked = led-back h around edit (e .slot) (e .wait) (lastWait 0 xs) follower-wait rest-linked }))
       (λ j _. refl)
       (λ _. record { wait = edit .own 3 (omega arith); next = edit .own 6 (omega arith); previous = edit .own 7 (omega arith) })
       (stopped s i (idled x))
@@ -164,18 +164,18 @@ module _ (t : List ℕ) (i : ℕ) (h : InTable t i) where
     found : Split i (chainOf k (read t))
     found = split i (chainOf k (read t)) (times-kind k true waits)
 
-    pub cuttable : ((m : ℕ) → word t m < 4294967296) → Cuttable k t i
-    cuttable fits =
-        let f = found in subst (Cuttable k t) (f .slot) (cuttable-mid k t (read t) (h .holds) (f .front) (f .entry) (f .back) (f .whole) fits)
+    pub extractable : ((m : ℕ) → word t m < 4294967296) → Extractable k t i
+    extractable fits =
+        let f = found in subst (Extractable k t) (f .slot) (extractable-mid k t (read t) (h .holds) (f .front) (f .entry) (f .back) (f .whole) fits)
 
     -- the words after the steps of a stop
-    pub stop-waiting : {t₁ t₂ : List ℕ} (v : ℕ) → v ≡ kindAt (field t 0 i) .stopped → t₁ ≡ cutOut k t i → t₂ ≡ set t₁ (fieldWord i 0) v
+    pub stop-waiting : {t₁ t₂ : List ℕ} (v : ℕ) → v ≡ kindAt (field t 0 i) .stopped → t₁ ≡ extractedWords k t i → t₂ ≡ set t₁ (fieldWord i 0) v
         → t₂ ≡ over (stopped (read t) i (idled (slotAt (read t .slots) i))) t
-    stop-waiting v idle cut put =
+    stop-waiting v idle extract put =
         let f = found in
-        put ∙ ap (λ (l : List ℕ). set l (fieldWord i 0) v) cut
+        put ∙ ap (λ (l : List ℕ). set l (fieldWord i 0) v) extract
         ∙ subst (λ (j : ℕ). v ≡ kindAt (slotAt (read t .slots) j .kind) .stopped → without j (chainOf k (read t)) ≡ f .front ++ f .back
-        → set (cutOut k t j) (fieldWord j 0) v ≡ over (stopped (read t) j (idled (slotAt (read t .slots) j))) t) (f .slot)
+        → set (extractedWords k t j) (fieldWord j 0) v ≡ over (stopped (read t) j (idled (slotAt (read t .slots) j))) t) (f .slot)
         (stop-mid k t (read t) (h .holds) (f .front) (f .entry) (f .back) (f .whole) v)
         (idle ∙ ap (λ (x : Slot). kindAt (x .kind) .stopped) (sym slot-is)) (f .rest)
 

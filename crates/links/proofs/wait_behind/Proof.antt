@@ -1,10 +1,10 @@
--- `links::give_over` meets its contract, by its three cases: no slot, and a slot of either chain. Assumes nothing.
+-- `links::wait_behind` meets its contract, by its three cases: no slot, and a slot of either chain. Assumes nothing.
 use native.Mathlib.Omega.{arith}
 use mathlib.Core.Path.{sym, _∙_}
 use borrow.Author.Needs.{needs}
-use Rattle.links.proofs.Surgery.{given-ticks, given-date}
-use Rattle.links.proofs.give_over.Statement.{statement}
-use Rattle.links.proofs.give_over.Tie as tie
+use Rattle.links.proofs.EditedWords.{wait-behind-ticks, wait-behind-date}
+use Rattle.links.proofs.wait_behind.Statement.{statement}
+use Rattle.links.proofs.wait_behind.Tie as tie
 
 returns : tie.Need-returns
 returns c = search needs
@@ -27,14 +27,14 @@ returns-2 : tie.Need-returns-2
 returns-2 c =
     let some = c .before .before .before in
     let a = some .before .before .args in
-    rw (c .enum-told .given .1, c .before .before .get .ensures) (sym (given-ticks (a .t .now) (a .w) (a .n) (some .if1 .left)))
+    rw (c .enum-told .given .1, c .before .before .get .ensures) (sym (wait-behind-ticks (a .t .now) (a .w) (a .n) (some .if1 .left)))
 
 returns-3 : tie.Need-returns-3
 returns-3 c =
     let some = c .before .before .before in
     let a = some .before .before .args in
-    rw (c .enum-told2 .given .1) (c .before .before .get .ensures ∙ sym (given-date (a .t .now) (a .w) (a .n) (some .if1 .left)))
+    rw (c .enum-told2 .given .1) (c .before .before .get .ensures ∙ sym (wait-behind-date (a .t .now) (a .w) (a .n) (some .if1 .left)))
 
-pub give-over-spec : {M : Type 1} → statement M
-give-over-spec =
+pub wait-behind-spec : {M : Type 1} → statement M
+wait-behind-spec =
     tie.close (tie.spec returns get-requires enum-told sub-result enum-told-2 returns-2 returns-3)

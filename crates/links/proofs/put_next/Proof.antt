@@ -1,9 +1,9 @@
--- `links::put_link` meets its contract, by the two cases of the linking word. Assumes nothing.
+-- `links::put_next` meets its contract, by the two cases of the linking word. Assumes nothing.
 use native.Mathlib.Omega.{arith}
 use borrow.Author.Needs.{needs}
-use Rattle.links.proofs.Surgery.{head-low, link-none, link-some}
-use Rattle.links.proofs.put_link.Statement.{statement}
-use Rattle.links.proofs.put_link.Tie as tie
+use Rattle.links.proofs.EditedWords.{head-low, link-none, link-some}
+use Rattle.links.proofs.put_next.Statement.{statement}
+use Rattle.links.proofs.put_next.Tie as tie
 
 head-word-requires : tie.Need-head-word-requires
 head-word-requires c κs = search needs
@@ -33,8 +33,8 @@ returns-2 c =
     let a = in-else .before .before .args in
     rw (link-some (a .chain) (a .p) (in-else .if1 .left)) (c .before .before .put .ensures)
 
-pub put-link-spec : {M : Type 1} → statement M
-put-link-spec =
+pub put-next-spec : {M : Type 1} → statement M
+put-next-spec =
     tie.close
     (tie.spec
     head-word-requires

@@ -12,7 +12,7 @@ use Rattle.model.specs.declared.Chain.{Chain}
 use Rattle.model.specs.State.{Link}
 use Rattle.model.specs.Words.{field, along, total, linksFrom}
 use Rattle.model.proofs.ListLaws.{cases}
-use Rattle.soundness.proofs.Sums.{times}
+use Rattle.soundness.proofs.CountsAddUp.{times}
 
 module _ (next : ℕ → ℕ) where
   -- c steps from slot i lead to 0, and no fewer

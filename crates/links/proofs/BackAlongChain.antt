@@ -12,7 +12,7 @@ use Rattle.model.specs.Words.{field, read}
 use Rattle.model.proofs.WellFormed.{timesIn, Holds}
 use Rattle.model.proofs.Chains.{once}
 use Rattle.model.proofs.Spelling.{holds-parts}
-use Rattle.links.proofs.Middle.{last-slot, last-wait, split, all-mid, mid-stands, mid-own, last-low}
+use Rattle.links.proofs.LinkInMiddle.{last-slot, last-wait, split, all-mid, mid-stands, mid-own, last-low}
 use Rattle.links.proofs.Positions.{position, last-of}
 
 -- slot i of the interval chain, and the slot before it

@@ -18,12 +18,12 @@ use Rattle.model.specs.State.{Link}
 use Rattle.model.specs.Words.{word, field, headWord, along, total, linksFrom}
 use Rattle.model.specs.Sound.{previousSound, chainSound, firstSound, ticksSound, rising, datesSound}
 use Rattle.model.proofs.ListLaws.{cases, both, and-both, all-at, all-true, all-up, up-at, every-true, every-all, all-map, all-zip}
-use Rattle.soundness.specs.Walks.{Stand, standing, origin, start, linkTested, waitTested, step, waiting}
-use Rattle.word_checks.proofs.Tests.{same, exchange}
 use Rattle.table.proofs.KindTests.{kindIn, kind-is}
+use Rattle.word_checks.proofs.BooleanTests.{same, exchange}
+use Rattle.soundness.specs.Walks.{Stand, standing, origin, start, linkTested, waitTested, step, waiting}
 use Rattle.soundness.proofs.StepTests.{InLink, in-link, link-in}
-use Rattle.soundness.proofs.Sums.{times, sumUp, sum-same, sum-few, sum-times, sum-tight, none-times}
-use Rattle.soundness.proofs.Steps.{Ends, along-first, along-more, ends-length, ends-of, once, along-low, links-first, links-more}
+use Rattle.soundness.proofs.CountsAddUp.{times, sumUp, sum-same, sum-few, sum-times, sum-tight, none-times}
+use Rattle.soundness.proofs.NoSlotTwice.{Ends, along-first, along-more, ends-length, ends-of, once, along-low, links-first, links-more}
 
 -- ---- what document 01 says of a chain's waits
 abbrev pub waitsSound : Chain → List ℕ → Bool
