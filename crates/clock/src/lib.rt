@@ -17,6 +17,7 @@ use firing::fire;
 use firing::step_clock;
 use model::Chain;
 use model::Status;
+use soundness::is_sound;
 use table::*;
 
 // The words of a fired list for so many slots.

@@ -11,8 +11,8 @@ use Rattle.model.specs.State.{Link, chainOf}
 use Rattle.model.specs.Words.{first, word, field, headWord, read}
 use Rattle.model.proofs.WellFormed.{Holds}
 use Rattle.model.proofs.Spelling.{holds-parts}
-use Rattle.links.proofs.Middle.{mid-stands, mid-own}
-use Rattle.links.proofs.Walk.{differ-zero}
+use Rattle.links.proofs.LinkInMiddle.{mid-stands, mid-own}
+use Rattle.links.proofs.WalkToPlace.{differ-zero}
 
 -- slot i is that of the first link of chain k
 pub record Front (k : Chain) (t : List ℕ) (i : ℕ) : Type 0 where

@@ -1,4 +1,4 @@
--- A timer that does not wait starts to: its slot put between xs and ys, the links of the chain up to its wait and beyond it, is one edit of
+-- A timer that does not wait starts to: its slot inserted between xs and ys, the links of the chain up to its wait and beyond it, is one edit of
 -- the table, which then holds the started state. Assumes nothing.
 use mathlib.Core.Path.{_≡_, refl, sym, ap, ap₂, _∙_, subst}
 use mathlib.Core.Logic.{_≢_}
@@ -21,12 +21,12 @@ use Rattle.model.proofs.WellFormed.{timesIn, Holds}
 use Rattle.model.proofs.Chains.{without-none, once, once-apart, met-in-range}
 use Rattle.model.proofs.Spelling.{holds-parts, Linked}
 use Rattle.model.proofs.Steps.{chained-started}
-use Rattle.links.specs.Surgery.{relinked, given, putIn, Open, filled}
+use Rattle.links.specs.EditedWords.{relinked, waitBehind, insertedWords, Insertable, timerPut}
 use Rattle.links.specs.Places.{upTo, beyond, lastSlot, lastWait, At, IdleInTable}
-use Rattle.links.proofs.Middle.{times-at}
-use Rattle.links.proofs.Surgery.{given-ticks, given-date, relinked-edit, filled-edit}
+use Rattle.links.proofs.LinkInMiddle.{times-at}
+use Rattle.links.proofs.EditedWords.{wait-behind-ticks, wait-behind-date, relinked-edit, timer-put-edit}
 use Rattle.links.proofs.Relinked.{times-but, Around, own-not-last, own-not-first, last-high, first-high, behind-within, Led, led-tail, holds-led, led-front, led-back, edited}
-use Rattle.links.proofs.Cutting.{in-slots, in-none}
+use Rattle.links.proofs.Extracting.{in-slots, in-none}
 
 -- ---- the place
 
@@ -50,10 +50,10 @@ first-beyond n (x ∷ xs) y ys e =
     (λ f. let z : x ∷ xs ≡ y ∷ ys = rw f at e in let w : x .wait ≡ y .wait = cc in omega (arith, leb-false (x .wait) n f))
 
 -- a wait of the slot behind, after one came in front of it
-given-is : (k : Chain) (t : List ℕ) (n w a b c : ℕ) → n ≢ 0 → field t 3 n ≡ difference k a c → w ≡ difference k a b → a ≤ b → b ≤ c
-    → given k t n w ≡ difference k b c
-given-is ByTicks t n w a b c h e f p q = omega (arith, given-ticks t w n h)
-given-is ByDate t n w a b c h e f p q = given-date t w n h ∙ e
+wait-behind-is : (k : Chain) (t : List ℕ) (n w a b c : ℕ) → n ≢ 0 → field t 3 n ≡ difference k a c → w ≡ difference k a b → a ≤ b → b ≤ c
+    → waitBehind k t n w ≡ difference k b c
+wait-behind-is ByTicks t n w a b c h e f p q = omega (arith, wait-behind-ticks t w n h)
+wait-behind-is ByDate t n w a b c h e f p q = wait-behind-date t w n h ∙ e
 
 -- a state whose slot i is in no chain
 started-as : (k : Chain) (s : State) (i n : ℕ) (x : Slot) (c : List Link) → ((m : Chain) → timesIn (chainOf m s) i ≡ 0)
@@ -107,15 +107,15 @@ module _ (k : Chain) (t : List ℕ) (s : State) (h : Holds t s) (xs : List Link)
   behind-wait y zs q = subst (Linked k t (lastSlot 0 xs) (lastWait 0 xs)) q (rest .linked) .0 .wait
 
   module _ (w : ℕ) (w-is : w ≡ difference k (lastWait 0 xs) (e .wait)) where
-    -- what the slot behind gives over
-    given-over : (y : Link) (zs : List Link) → ys ≡ y ∷ zs → given k t (first ys) w ≡ difference k (e .wait) (y .wait)
-    given-over y zs q =
-        ap (λ (c : List Link). given k t (first c) w) q
-        ∙ given-is k t (y .slot) w (lastWait 0 xs) (e .wait) (y .wait) (λ z. omega (arith, behind-within around y zs q .0))
+    -- the wait of the slot behind
+    follower-wait : (y : Link) (zs : List Link) → ys ≡ y ∷ zs → waitBehind k t (first ys) w ≡ difference k (e .wait) (y .wait)
+    follower-wait y zs q =
+        ap (λ (c : List Link). waitBehind k t (first c) w) q
+        ∙ wait-behind-is k t (y .slot) w (lastWait 0 xs) (e .wait) (y .wait) (λ z. omega (arith, behind-within around y zs q .0))
         (behind-wait y zs q) w-is up (past y zs q)
 
-    open-mid : Open k t (lastSlot 0 xs) (e .slot) w
-    open-mid = record {
+    insertable-mid : Insertable k t (lastSlot 0 xs) (e .slot) w
+    insertable-mid = record {
       here = omega (arith, h .long);
       before = omega (arith, last-high around, h .long);
       behind = omega (arith, rest .link, first-high around, h .long);
@@ -130,7 +130,7 @@ module _ (k : Chain) (t : List ℕ) (s : State) (h : Holds t s) (xs : List Link)
             omega (arith, ap (λ (m : Chain). difference m (lastWait 0 xs) (y .wait)) c, ap (λ (m : Chain). difference m (lastWait 0 xs) (e .wait)) c)
 
     start-mid : (m : Mode) → k ≡ chainFor m → (r u : ℕ) → place (λ z. z .wait) e (chainOf k s) ≡ xs ++ e ∷ ys
-        → filled (putIn k t (lastSlot 0 xs) (e .slot) w) (e .slot) (waitingKind m) (intervalIn (chainFor m) (e .wait)) r u
+        → timerPut (insertedWords k t (lastSlot 0 xs) (e .slot) w) (e .slot) (waitingKind m) (intervalIn (chainFor m) (e .wait)) r u
         ≡ over (started m s (e .slot) (e .wait) r u) t
     start-mid m in-k r u goes =
         let interval = intervalIn (chainFor m) (e .wait) in
@@ -140,17 +140,17 @@ module _ (k : Chain) (t : List ℕ) (s : State) (h : Holds t s) (xs : List Link)
         let x = slotAt (s .slots) i in
         let new : record { kind = waitingKind m; name = field t 1 i; interval = interval; routine = r; userData = u } ≡ waitingAs m x (e .wait) r u =
         ap (λ (z : Slot). waitingAs m z (e .wait) r u) (holds-parts t s h .slots i low high) in
-        let edit = filled-edit (waitingKind m) interval r u refl
-        (relinked-edit k t p i n i (given k t n w) i low (own-not-last around) (own-not-first around)
+        let edit = timer-put-edit (waitingKind m) interval r u refl
+        (relinked-edit k t p i n i (waitBehind k t n w) i low (own-not-last around) (own-not-first around)
         (omega (arith, last-high around, h .long)) (omega (arith, first-high around, h .long)) (omega (arith, h .long)) w n p) in
-        ap (λ (j : ℕ). filled (relinked k t p i j i (given k t j w) i w j p) i (waitingKind m) interval r u) (rest .link)
+        ap (λ (j : ℕ). timerPut (relinked k t p i j i (waitBehind k t j w) i w j p) i (waitingKind m) interval r u) (rest .link)
         ∙ edited h around edit (xs ++ e ∷ ys)
         (led-front h around edit ys (e ∷ ys) whole
         (record {
           link = edit .link;
           linked = (
             record { next = edit .own 6 (omega arith); previous = edit .own 7 (omega arith); wait = edit .own 3 (omega arith) ∙ w-is },
-            led-back h around edit p (lastWait 0 xs) (e .wait) given-over (rest .linked),
+            led-back h around edit p (lastWait 0 xs) (e .wait) follower-wait (rest .linked),
           );
         }))
         (λ j. times-but j xs e ys)
@@ -164,21 +164,21 @@ module _ (k : Chain) (t : List ℕ) (s : State) (h : Holds t s) (xs : List Link)
 -- ---- a table
 
 module _ (k : Chain) (t : List ℕ) (i : ℕ) (h : IdleInTable t i) (n p w : ℕ) (at : At k (read t) n p w) where
-  pub opens : Open k t p i w
-  opens =
+  pub insertable : Insertable k t p i w
+  insertable =
       let c = chainOf k (read t) in
-      rw (at .slot) (open-mid k t (read t) (h .in-table .holds) (upTo n c) (record { slot = i; wait = n }) (beyond n c) (parted n c)
+      rw (at .slot) (insertable-mid k t (read t) (h .in-table .holds) (upTo n c) (record { slot = i; wait = n }) (beyond n c) (parted n c)
       (h .in-table .low) (in-slots t i (h .in-table)) (in-none t i (h .in-table) (h .idle)) (last-up 0 n c zero-le) (first-beyond n c)
       w (at .word))
 
   -- the words after the steps of a start
-  pub start-words : (m : Mode) → k ≡ chainFor m → (r u : ℕ) {kind interval : ℕ} (t₁ : List ℕ) {t₂ : List ℕ} → t₁ ≡ putIn k t p i w → kind ≡ waitingKind m
-      → interval ≡ intervalIn k n → t₂ ≡ filled t₁ i kind interval r u → t₂ ≡ over (started m (read t) i n r u) t
-  start-words m in-k r u t₁ put is for fill =
+  pub start-words : (m : Mode) → k ≡ chainFor m → (r u : ℕ) {kind interval : ℕ} (t₁ : List ℕ) {t₂ : List ℕ} → t₁ ≡ insertedWords k t p i w → kind ≡ waitingKind m
+      → interval ≡ intervalIn k n → t₂ ≡ timerPut t₁ i kind interval r u → t₂ ≡ over (started m (read t) i n r u) t
+  start-words m in-k r u t₁ put is for timer =
       let c = chainOf k (read t) in
       let e : Link = record { slot = i; wait = n } in
-      fill ∙ ap₂ (λ (a b : ℕ). filled t₁ i a b r u) is (for ∙ ap (λ (j : Chain). intervalIn j n) in-k)
-      ∙ ap (λ (l : List ℕ). filled l i (waitingKind m) (intervalIn (chainFor m) n) r u) put
+      timer ∙ ap₂ (λ (a b : ℕ). timerPut t₁ i a b r u) is (for ∙ ap (λ (j : Chain). intervalIn j n) in-k)
+      ∙ ap (λ (l : List ℕ). timerPut l i (waitingKind m) (intervalIn (chainFor m) n) r u) put
       ∙ rw (at .slot) (start-mid k t (read t) (h .in-table .holds) (upTo n c) e (beyond n c) (parted n c)
       (h .in-table .low) (in-slots t i (h .in-table)) (in-none t i (h .in-table) (h .idle)) (last-up 0 n c zero-le) (first-beyond n c)
       w (at .word) m in-k r u (placed e c))

@@ -24,8 +24,8 @@ use Rattle.model.proofs.KindLaws.{each-chain}
 use Rattle.model.proofs.Spelling.{headWords, linkWord, link-field, Lay, Loose, Parts, holds-parts, parts-holds, Linked, linked-lay, holds-linked}
 use Rattle.model.proofs.Steps.{rechain-slots, rechain-clock, rechain-own, rechain-apart, rechained}
 use Rattle.links.specs.Places.{lastSlot, lastWait}
-use Rattle.links.proofs.Middle.{times-more, times-mid, times-at}
-use Rattle.links.proofs.Surgery.{head-low, Edit, slotOf, own-slot, kept, kept-link, kept-head, kept-rest}
+use Rattle.links.proofs.LinkInMiddle.{times-more, times-mid, times-at}
+use Rattle.links.proofs.EditedWords.{head-low, Edit, slotOf, own-slot, kept, kept-link, kept-head, kept-rest}
 
 -- ---- neighbours
 

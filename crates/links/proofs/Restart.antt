@@ -17,7 +17,7 @@ use Rattle.model.proofs.Spelling.{holds-parts}
 use Rattle.model.proofs.ReadBack.{count-is, over-over}
 use Rattle.model.proofs.Steps.{length-stopped, chained-stopped, length-started}
 use Rattle.links.specs.Places.{InTable, IdleInTable}
-use Rattle.links.proofs.Cutting.{in-slots}
+use Rattle.links.proofs.Extracting.{in-slots}
 use Rattle.links.proofs.NextState.{Next, next-start, next-read, next-holds, next-then}
 
 stopped-twice : (s : State) (i : ℕ) (x y : Slot) → stopped (stopped s i x) i y ≡ stopped s i y

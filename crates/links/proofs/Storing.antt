@@ -10,7 +10,7 @@ use Rattle.model.specs.Directives.{stored}
 use Rattle.model.specs.Words.{slotWords, allSlots, over, read}
 use Rattle.model.proofs.Spelling.{headWords}
 use Rattle.model.proofs.ReadBack.{slots-length}
-use Rattle.links.specs.Surgery.{fieldWord, filled}
+use Rattle.links.specs.EditedWords.{fieldWord, timerPut}
 use Rattle.links.specs.Places.{InTable}
 
 -- the words of the slot x, at word m of l and those behind it
@@ -35,8 +35,8 @@ put-slot s b (suc j) x (y ∷ ys) rest p =
     at f = omega arith
 
 pub store-words : (t : List ℕ) (i : ℕ) (x : Slot) → InTable t i
-    → filled (set t (fieldWord i 1) (x .name)) i (x .kind) (x .interval) (x .routine) (x .userData) ≡ over (stored (read t) i x) t
-unfolding filled
+    → timerPut (set t (fieldWord i 1) (x .name)) i (x .kind) (x .interval) (x .routine) (x .userData) ≡ over (stored (read t) i x) t
+unfolding timerPut
 store-words t zero x h = absurd (omega (arith, h .low))
 store-words t (suc j) x h =
     let s = read t in

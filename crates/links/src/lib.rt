@@ -10,7 +10,7 @@ ghost use Rattle.model.specs.Directives.{stored, stopped, idled, intervalIn, st
 ghost use Rattle.model.specs.Words.{word, field, headWord, difference, read, over};
 ghost use Rattle.model.proofs.WellFormed.{Holds, timesIn};
 ghost use Rattle.model.proofs.Spelling.{linkWord};
-ghost use Rattle.links.specs.Surgery.{joined, threaded, taken, given, cutOut, putIn, Cuttable, Open, filled};
+ghost use Rattle.links.specs.EditedWords.{followerPut, linksPut, waitWithout, waitBehind, extractedWords, insertedWords, Extractable, Insertable, timerPut};
 ghost use Rattle.links.specs.Places.{At, InTable, IdleInTable};
 use model::Chain;
 use model::Mode;
@@ -84,7 +84,7 @@ pub fn follower(t: &[u32], chain: Chain, p: u32) -> u32
 }
 
 // The word that links to what follows slot p becomes n.
-fn put_link(t: &mut [u32], chain: Chain, p: u32, n: u32)
+fn put_next(t: &mut [u32], chain: Chain, p: u32, n: u32)
     requires { ⌜ 8 * p + 10 ≤ length (now t) ⌝ }
     ensures { λ _. ⌜ now (t .exit) ≡ set (now (t .entry)) (linkWord chain p) n ⌝ }
 {
@@ -97,9 +97,9 @@ fn put_link(t: &mut [u32], chain: Chain, p: u32, n: u32)
 }
 
 // Slot n, if there is one, gets previous q and wait v.
-fn join(t: &mut [u32], n: u32, q: u32, v: u32)
+fn put_follower(t: &mut [u32], n: u32, q: u32, v: u32)
     requires { ⌜ 8 * n + 10 ≤ length (now t) ⌝ }
-    ensures { λ _. ⌜ now (t .exit) ≡ joined (now (t .entry)) n q v ⌝ }
+    ensures { λ _. ⌜ now (t .exit) ≡ followerPut (now (t .entry)) n q v ⌝ }
 {
     if n == 0 {
         return;
@@ -109,9 +109,9 @@ fn join(t: &mut [u32], n: u32, q: u32, v: u32)
 }
 
 // Wait, next and previous of slot i.
-fn thread(t: &mut [u32], i: u32, w: u32, n: u32, p: u32)
+fn put_links(t: &mut [u32], i: u32, w: u32, n: u32, p: u32)
     requires { ⌜ 8 * i + 10 ≤ length (now t) ⌝ }
-    ensures { λ _. ⌜ now (t .exit) ≡ threaded (now (t .entry)) i w n p ⌝ }
+    ensures { λ _. ⌜ now (t .exit) ≡ linksPut (now (t .entry)) i w n p ⌝ }
 {
     put(t, i, WAIT, w);
     put(t, i, NEXT, n);
@@ -119,9 +119,9 @@ fn thread(t: &mut [u32], i: u32, w: u32, n: u32, p: u32)
 }
 
 // The wait of slot n, if there is one, after the slot before it, of wait w, left the chain.
-fn take_over(t: &[u32], chain: Chain, n: u32, w: u32) -> u32
-    requires { ⌜ (8 * n + 10 ≤ length (now t)) × (taken chain (now t) n w < 4294967296) ⌝ }
-    ensures { λ r. ⌜ r ≡ taken chain (now (t .entry)) n w ⌝ }
+fn wait_without(t: &[u32], chain: Chain, n: u32, w: u32) -> u32
+    requires { ⌜ (8 * n + 10 ≤ length (now t)) × (waitWithout chain (now t) n w < 4294967296) ⌝ }
+    ensures { λ r. ⌜ r ≡ waitWithout chain (now (t .entry)) n w ⌝ }
 {
     if n == 0 {
         return 0;
@@ -134,9 +134,9 @@ fn take_over(t: &[u32], chain: Chain, n: u32, w: u32) -> u32
 }
 
 // The wait of slot n, if there is one, after one of wait w came in front of it.
-fn give_over(t: &[u32], chain: Chain, n: u32, w: u32) -> u32
+fn wait_behind(t: &[u32], chain: Chain, n: u32, w: u32) -> u32
     requires { ⌜ (8 * n + 10 ≤ length (now t)) × (chain ≡ Chain.ByTicks → 0 < n → w ≤ field (now t) 3 n) ⌝ }
-    ensures { λ r. ⌜ r ≡ given chain (now (t .entry)) n w ⌝ }
+    ensures { λ r. ⌜ r ≡ waitBehind chain (now (t .entry)) n w ⌝ }
 {
     if n == 0 {
         return 0;
@@ -149,29 +149,29 @@ fn give_over(t: &[u32], chain: Chain, n: u32, w: u32) -> u32
 }
 
 // Slot i leaves its chain.
-fn cut(t: &mut [u32], chain: Chain, i: u32)
-    requires { ⌜ Cuttable chain (now t) i ⌝ }
-    ensures { λ _. ⌜ now (t .exit) ≡ cutOut chain (now (t .entry)) i ⌝ }
+fn extract(t: &mut [u32], chain: Chain, i: u32)
+    requires { ⌜ Extractable chain (now t) i ⌝ }
+    ensures { λ _. ⌜ now (t .exit) ≡ extractedWords chain (now (t .entry)) i ⌝ }
 {
     let n = get(t, i, NEXT);
     let p = get(t, i, PREVIOUS);
     let w = get(t, i, WAIT);
-    let v = take_over(t, chain, n, w);
-    put_link(t, chain, p, n);
-    join(t, n, p, v);
-    thread(t, i, 0, 0, 0);
+    let v = wait_without(t, chain, n, w);
+    put_next(t, chain, p, n);
+    put_follower(t, n, p, v);
+    put_links(t, i, 0, 0, 0);
 }
 
 // Slot i comes behind slot p, with wait w.
 fn insert(t: &mut [u32], chain: Chain, p: u32, i: u32, w: u32)
-    requires { ⌜ Open chain (now t) p i w ⌝ }
-    ensures { λ _. ⌜ now (t .exit) ≡ putIn chain (now (t .entry)) p i w ⌝ }
+    requires { ⌜ Insertable chain (now t) p i w ⌝ }
+    ensures { λ _. ⌜ now (t .exit) ≡ insertedWords chain (now (t .entry)) p i w ⌝ }
 {
     let n = follower(t, chain, p);
-    let v = give_over(t, chain, n, w);
-    put_link(t, chain, p, i);
-    join(t, n, i, v);
-    thread(t, i, w, n, p);
+    let v = wait_behind(t, chain, n, w);
+    put_next(t, chain, p, i);
+    put_follower(t, n, i, v);
+    put_links(t, i, w, n, p);
 }
 
 // A waiting timer becomes idle of its own kind; one that does not wait stays as it is.
@@ -181,12 +181,12 @@ pub fn stop(t: &mut [u32], i: u32)
 {
     let kind = get(t, i, KIND);
     if kind == WAITING_TICKS {
-        cut(t, Chain::ByTicks, i);
+        extract(t, Chain::ByTicks, i);
         put(t, i, KIND, IDLE_TICKS);
         return;
     }
     if kind == WAITING_DATE {
-        cut(t, Chain::ByDate, i);
+        extract(t, Chain::ByDate, i);
         put(t, i, KIND, IDLE_DATE);
     }
 }
@@ -237,9 +237,9 @@ fn find_place(t: &[u32], chain: Chain, n: u32) -> Place
 }
 
 // Kind, interval, routine and user data of slot i.
-fn fill(t: &mut [u32], i: u32, kind: u32, interval: u32, routine: u32, user_data: u32)
+fn put_timer(t: &mut [u32], i: u32, kind: u32, interval: u32, routine: u32, user_data: u32)
     requires { ⌜ 8 * i + 10 ≤ length (now t) ⌝ }
-    ensures { λ _. ⌜ now (t .exit) ≡ filled (now (t .entry)) i kind interval routine user_data ⌝ }
+    ensures { λ _. ⌜ now (t .exit) ≡ timerPut (now (t .entry)) i kind interval routine user_data ⌝ }
 {
     put(t, i, KIND, kind);
     put(t, i, INTERVAL, interval);
@@ -257,14 +257,9 @@ fn start_idle(t: &mut [u32], mode: Mode, i: u32, amount: u32, routine: u32, user
     let p = place.before;
     let w = place.wait;
     insert(t, chain, p, i, w);
-    fill(
-        t,
-        i,
-        waiting_kind(mode),
-        interval_in(chain, amount),
-        routine,
-        user_data,
-    );
+    let kind = waiting_kind(mode);
+    let interval = interval_in(chain, amount);
+    put_timer(t, i, kind, interval, routine, user_data);
 }
 
 // A timer starts to wait, whatever it did before.
@@ -282,7 +277,7 @@ pub fn store(t: &mut [u32], i: u32, kind: u32, name: u32)
     ensures { λ _. ⌜ now (t .exit) ≡ over (stored (read (now (t .entry))) i (record { kind = kind; name = name; interval = 0; routine = 0; userData = 0 })) (now (t .entry)) ⌝ }
 {
     put(t, i, NAME, name);
-    fill(t, i, kind, 0, 0, 0);
+    put_timer(t, i, kind, 0, 0, 0);
 }
 
 // The ticks left of a slot of the interval chain: its wait and those of every slot before it. The slice is reborrowed where it is passed

@@ -16,7 +16,7 @@ use Rattle.model.specs.Words.{word, field, read, slotFrom, slotsFrom}
 use Rattle.model.proofs.ListLaws.{cases}
 use Rattle.model.proofs.ReadBack.{slots-length, slot-read}
 use Rattle.model.proofs.Refused.{Named, named, named-true}
-use Rattle.slots.specs.Search.{lowestWith, namedSlot}
+use Rattle.slots.specs.Search.{lowestWith, lowestIn, namedSlot}
 
 -- ---- the lowest slot
 
@@ -28,37 +28,35 @@ module _ (t : List ℕ) where
   lowest-by part f is v i zero = refl
   lowest-by part f is v i (suc m) = ap₂ (λ (w n : ℕ). cond (eqb w v) i n) (is i) (lowest-by part f is v (suc i) m)
 
-  pub free-found : lowestFree (read t) ≡ lowestWith t 0 0 1 (word t 0)
-  free-found = lowest-by (λ x. x .kind) 0 (λ i. refl) 0 1 (word t 0)
+  -- of all slots
+  whole : (f v : ℕ) → lowestWith t f v 1 (word t 0) ≡ lowestIn t f v 1 (word t 0)
+  unfolding lowestIn
+  whole f v = ap (lowestWith t f v 1) (let z : word t 0 ≡ suc (word t 0) - 1 = omega arith in z)
 
-  pub name-found : (name : ℕ) → lowestNamed (read t) name ≡ lowestWith t 1 name 1 (word t 0)
-  name-found name = lowest-by (λ x. x .name) 1 (λ i. refl) name 1 (word t 0)
+  pub free-found : lowestFree (read t) ≡ lowestIn t 0 0 1 (word t 0)
+  free-found = lowest-by (λ x. x .kind) 0 (λ i. refl) 0 1 (word t 0) ∙ whole 0 0
 
-  -- what the loop has yet to look at
-  module _ (f v n i : ℕ) (in-loop : i ≤ n) where
-    left : n + 1 - i ≡ suc (n + 1 - (i + 1))
-    left = omega arith
+  pub name-found : (name : ℕ) → lowestNamed (read t) name ≡ lowestIn t 1 name 1 (word t 0)
+  name-found name = lowest-by (λ x. x .name) 1 (λ i. refl) name 1 (word t 0) ∙ whole 1 name
 
-    pub find-here : field t f i ≡ v → lowestWith t f v i (n + 1 - i) ≡ i
-    unfolding lowestWith
-    find-here e =
-        ap (lowestWith t f v i) left ∙ ap (λ (b : Bool). cond b i (lowestWith t f v (suc i) (n + 1 - (i + 1)))) (eq-eqb (field t f i) v e)
+  -- what the loop has yet to look at, up to slot n
+  module _ (f v n i : ℕ) where
+    pub find-none : n < i → lowestIn t f v i n ≡ 0
+    unfolding lowestIn lowestWith
+    find-none h = ap (lowestWith t f v i) (let z : suc n - i ≡ 0 = omega arith in z)
 
-    pub find-on : (field t f i ≡ v → ⊥) → lowestWith t f v i (n + 1 - i) ≡ lowestWith t f v (i + 1) (n + 1 - (i + 1))
-    unfolding lowestWith
-    find-on e =
-        ap (lowestWith t f v i) left ∙ ap (λ (b : Bool). cond b i (lowestWith t f v (suc i) (n + 1 - (i + 1)))) (ne-eqb (field t f i) v e)
-        ∙ ap (λ (k : ℕ). lowestWith t f v k (n + 1 - (i + 1))) (sym (add-one i))
+    module _ (in-loop : i ≤ n) where
+      opened : lowestIn t f v i n ≡ cond (eqb (field t f i) v) i (lowestIn t f v (i + 1) n)
+      unfolding lowestIn lowestWith
+      opened =
+          ap (lowestWith t f v i) (let z : suc n - i ≡ suc (suc n - (i + 1)) = omega arith in z)
+          ∙ ap (λ (k : ℕ). cond (eqb (field t f i) v) i (lowestWith t f v k (suc n - (i + 1)))) (sym (add-one i))
 
-  pub find-start : (f v n : ℕ) → lowestWith t f v 1 n ≡ lowestWith t f v 1 (n + 1 - 1)
-  find-start f v n = ap (lowestWith t f v 1) (let z : n ≡ n + 1 - 1 = omega arith in z)
+      pub find-here : field t f i ≡ v → lowestIn t f v i n ≡ i
+      find-here e = opened ∙ rw (eq-eqb (field t f i) v e)
 
-  pub find-none : (f v n i : ℕ) → n < i → lowestWith t f v i (n + 1 - i) ≡ 0
-  unfolding lowestWith
-  find-none f v n i h = ap (lowestWith t f v i) (let z : n + 1 - i ≡ 0 = omega arith in z) ∙ none i
-    where
-      none : (i : ℕ) → lowestWith t f v i 0 ≡ 0
-      none i = refl
+      pub find-on : (field t f i ≡ v → ⊥) → lowestIn t f v i n ≡ lowestIn t f v (i + 1) n
+      find-on e = opened ∙ rw (ne-eqb (field t f i) v e)
 
 -- ---- ids
 

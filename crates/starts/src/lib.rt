@@ -12,6 +12,7 @@ use links::start;
 use model::Mode;
 use model::Status;
 use slots::named;
+use soundness::is_sound;
 use table::*;
 
 // The kind is of a timer last started by interval, idle or waiting.

@@ -12,7 +12,11 @@ use Rattle.model.specs.declared.Chain.the-variants.{ByTicks, ByDate}
 use Rattle.model.specs.Kinds.{Kind, is, kinds, kindAt, isIn, waitsIn, isSome, waits, byTicks, lastByTicks}
 use Rattle.model.proofs.ListLaws.{cases}
 use Rattle.model.proofs.KindLaws.{readAll, on-kinds}
-use Rattle.table.specs.Walks.{kindIn}
+
+-- the kind of a slot that waits in chain k
+abbrev pub kindIn : Chain → ℕ
+kindIn ByTicks = 4
+kindIn ByDate = 5
 
 -- a test on what a kind says is a test on its number
 number : (f : Kind → Bool) (g : ℕ → Bool) → readAll (λ _ x. f x) 0 kinds ≡ readAll (λ n _. g n) 0 kinds

@@ -19,6 +19,7 @@ use slots::ID_BASE;
 use slots::clear;
 use slots::find;
 use slots::named;
+use soundness::is_sound;
 use table::*;
 
 // The numbers of a lay out are within their limits.
@@ -64,7 +65,7 @@ pub fn create(table: &mut [u32], name: u32) -> Answer
     if name == 0 {
         return Answer::Refused(Status::InvalidName);
     }
-    let i = find(table, KIND, FREE);
+    let i = find(table, KIND, FREE, 1, table[SLOT_COUNT]);
     if i == 0 {
         return Answer::Refused(Status::TooMany);
     }
@@ -82,7 +83,7 @@ pub fn ident(table: &[u32], name: u32) -> Answer
     if name == 0 {
         return Answer::Refused(Status::InvalidName);
     }
-    let i = find(table, NAME, name);
+    let i = find(table, NAME, name, 1, table[SLOT_COUNT]);
     if i == 0 {
         return Answer::Refused(Status::InvalidName);
     }

@@ -7,7 +7,7 @@ use borrow.Fn.Kinds.{In}
 use borrow.Fn.PlainCycle.{Measures, is, falls, and}
 use Rattle.model.specs.Words.{field, read}
 use Rattle.links.proofs.Positions.{position}
-use Rattle.links.proofs.Back.{Before, none-before, before}
+use Rattle.links.proofs.BackAlongChain.{Before, none-before, before}
 use Rattle.links.proofs.ticks_to.Reads as ticks-to
 use Rattle.links.proofs.ticks_to.Kinds as ticks-to-kinds
 use Rattle.links.proofs.+ticks_to.Lts-ticks_to as ticks-to-lts

@@ -2,7 +2,7 @@
 -- Assumes nothing.
 use native.Mathlib.Omega.{arith}
 use borrow.Author.Needs.{needs}
-use Rattle.links.proofs.Surgery.{head-low, link-none, link-some}
+use Rattle.links.proofs.EditedWords.{head-low, link-none, link-some}
 use Rattle.links.proofs.follower.Statement.{statement}
 use Rattle.links.proofs.follower.Tie as tie
 

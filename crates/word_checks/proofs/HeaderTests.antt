@@ -1,0 +1,83 @@
+-- The header's tests: what they say where they pass, and what is left of them where most have passed. Assumes nothing.
+use Prim.Native.Nat.{ℕ, _+_, _*_, _≤_, _<_}
+use mathlib.Core.Path.{_≡_, sym, _∙_}
+use mathlib.Core.Bool.{Bool, true, false, _||_, and-true}
+use mathlib.Core.List.{List, [], _∷_}
+use lib.ListN.{length}
+use lib.Dec.{leb, ltb, eqb}
+use borrow.Author.Tests.{eq-eqb, ne-eqb, lt-ltb, le-leb, leb-true, ltb-true}
+use Rattle.calendar.specs.Calendar.{lastSecond}
+use Rattle.model.proofs.ListLaws.{clash, all-at, all-true}
+use Rattle.model.specs.Words.{word}
+use Rattle.model.specs.Sound.{headerSound}
+use Rattle.word_checks.specs.Tested.{allZero}
+use Rattle.word_checks.proofs.BooleanTests.{never}
+
+abbrev headerTests : List ℕ → List Bool
+headerTests t =
+    leb 1 (word t 0) ∷ leb (word t 0) 255 ∷ leb (10 + 8 * word t 0) (length t)
+    ∷ leb 1 (word t 1) ∷ leb (word t 1) 1000 ∷ leb (word t 2) 1 ∷ leb (word t 3) lastSecond ∷ ltb (word t 4) (word t 1)
+    ∷ eqb (word t 7) 0 ∷ eqb (word t 8) 0 ∷ eqb (word t 9) 0
+    ∷ (eqb (word t 2) 1 || allZero (word t 3) (word t 4) (word t 6)) ∷ []
+
+-- what all of them say but the last four
+pub record Ranges (t : List ℕ) : Type 0 where
+  pub slots : (1 ≤ word t 0) × (word t 0 ≤ 255)
+  pub long : 10 + 8 * word t 0 ≤ length t
+  pub perSecond : (1 ≤ word t 1) × (word t 1 ≤ 1000)
+  pub flag : word t 2 ≤ 1
+  pub second : word t 3 ≤ lastSecond
+  pub ticks : word t 4 < word t 1
+
+module _ (t : List ℕ) where
+  pub header-ranges : headerSound t ≡ true → Ranges t
+  unfolding headerSound
+  header-ranges e =
+      let at = all-at (headerTests t) e in
+      record {
+        slots = (leb-true 1 (word t 0) (at 0), leb-true (word t 0) 255 (at 1));
+        long = leb-true (10 + 8 * word t 0) (length t) (at 2);
+        perSecond = (leb-true 1 (word t 1) (at 3), leb-true (word t 1) 1000 (at 4));
+        flag = leb-true (word t 2) 1 (at 5);
+        second = leb-true (word t 3) lastSecond (at 6);
+        ticks = ltb-true (word t 4) (word t 1) (at 7);
+      }
+
+  pub out-of-range : (Ranges t → ⊥) → false ≡ headerSound t
+  out-of-range f = never (headerSound t) (λ e. f (header-ranges e))
+
+  pub spare-false : allZero (word t 7) (word t 8) (word t 9) ≡ false → false ≡ headerSound t
+  unfolding headerSound
+  spare-false z =
+      never (headerSound t)
+      (λ e.
+      let at = all-at (headerTests t) e in
+      clash (sym (all-true (eqb (word t 7) 0 ∷ eqb (word t 8) 0 ∷ eqb (word t 9) 0 ∷ []) (at 8, (at 9, (at 10, tt)))) ∙ z))
+
+  -- the rest is right: the words of a clock that is not set decide
+  header-rest : Ranges t → allZero (word t 7) (word t 8) (word t 9) ≡ true
+      → headerSound t ≡ (eqb (word t 2) 1 || allZero (word t 3) (word t 4) (word t 6))
+  unfolding headerSound
+  header-rest r z =
+      let at = all-at (eqb (word t 7) 0 ∷ eqb (word t 8) 0 ∷ eqb (word t 9) 0 ∷ []) z in
+      rw (
+        le-leb 1 (word t 0) (r .slots .0),
+        le-leb (word t 0) 255 (r .slots .1),
+        le-leb (10 + 8 * word t 0) (length t) (r .long),
+        le-leb 1 (word t 1) (r .perSecond .0),
+        le-leb (word t 1) 1000 (r .perSecond .1),
+        le-leb (word t 2) 1 (r .flag),
+        le-leb (word t 3) lastSecond (r .second),
+        lt-ltb (word t 4) (word t 1) (r .ticks),
+        at 0,
+        at 1,
+        at 2,
+      )
+      (and-true (eqb (word t 2) 1 || allZero (word t 3) (word t 4) (word t 6)))
+
+  pub clock-set : Ranges t → allZero (word t 7) (word t 8) (word t 9) ≡ true → word t 2 ≡ 1 → true ≡ headerSound t
+  clock-set r z e = sym (header-rest r z ∙ rw (eq-eqb (word t 2) 1 e))
+
+  pub clock-not-set : Ranges t → allZero (word t 7) (word t 8) (word t 9) ≡ true → (word t 2 ≡ 1 → ⊥)
+      → allZero (word t 3) (word t 4) (word t 6) ≡ headerSound t
+  clock-not-set r z e = sym (header-rest r z ∙ rw (ne-eqb (word t 2) 1 e))

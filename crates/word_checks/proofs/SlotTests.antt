@@ -1,0 +1,157 @@
+-- A slot's tests, by its kind: at a kind that is known most of the seven compute, and those that are left are the code's. Where they pass they say
+-- what the walks need of the slot, and the slot is sound if besides its interval is 1 or more where its kind is 4. Assumes nothing.
+use Prim.Native.Nat.{ℕ, _≤_, _<_}
+use mathlib.Core.Path.{_≡_, refl, sym, ap, _∙_}
+use mathlib.Core.Bool.{Bool, true, false, cond, not, _&&_, _||_, and-true}
+use mathlib.Core.List.{List, [], _∷_}
+use native.Mathlib.Omega.{arith}
+use lib.ListN.{getD}
+use lib.Dec.{leb, ltb, eqb}
+use borrow.Author.Tests.{eqb-true, ne-eqb, le-ltb, lt-ltb, lt-leb, leb-true, leb-false}
+use Rattle.model.proofs.ListLaws.{cases, both, or-right, all-at, all-true}
+use Rattle.model.specs.declared.Chain.{Chain}
+use Rattle.model.specs.declared.Chain.the-variants.{ByTicks, ByDate}
+use Rattle.model.specs.Kinds.{waits, waitsIn, lastByTicks}
+use Rattle.model.specs.Words.{field}
+use Rattle.model.specs.Sound.{slotSound, unlinked, unstarted}
+use Rattle.table.proofs.KindTests.{kind-is, timed-is, linked-is}
+use Rattle.word_checks.specs.Tested.{slotTested, slotTestedAs}
+use Rattle.word_checks.proofs.BooleanTests.{fails}
+
+-- Interval is 1 or more after a start by ticks, zero after one by date.
+abbrev pub intervalSound : Chain → ℕ → Bool
+intervalSound ByTicks interval = ltb 0 interval
+intervalSound ByDate interval = eqb interval 0
+
+-- the kind of a slot that is idle after it waited in chain k
+abbrev pub idleIn : Chain → ℕ
+idleIn ByTicks = 2
+idleIn ByDate = 3
+
+module _ (t : List ℕ) (i : ℕ) where
+  abbrev slotTests : ℕ → List Bool
+  slotTests kind =
+      leb kind 5 ∷ (not (eqb kind 0) || eqb (field t 1 i) 0) ∷ (eqb kind 0 || ltb 0 (field t 1 i)) ∷ (ltb 1 kind || unstarted t i)
+      ∷ (ltb kind 2 || ltb 0 (field t 4 i)) ∷ (waitsIn ByTicks kind || cond (lastByTicks kind) (ltb 0 (field t 2 i)) (eqb (field t 2 i) 0))
+      ∷ (waits kind || unlinked t i) ∷ []
+
+  slot-fails : (k : ℕ) → getD (slotTests (field t 0 i)) k true ≡ false → false ≡ slotTested t i
+  unfolding slotTested
+  slot-fails k e = fails (slotTests (field t 0 i)) k e
+
+  pub kind-fails : 5 < field t 0 i → false ≡ slotTested t i
+  kind-fails h = slot-fails 0 (lt-leb (field t 0 i) 5 h)
+
+  pub name-fails : 1 < field t 0 i → field t 1 i < 1 → false ≡ slotTested t i
+  name-fails h n = slot-fails 2 (rw (ne-eqb (field t 0 i) 0 (λ e. omega arith)) (le-ltb 0 (field t 1 i) (omega arith)))
+
+  pub routine-fails : 1 < field t 0 i → field t 4 i < 1 → false ≡ slotTested t i
+  routine-fails h n = slot-fails 4 (rw (le-ltb (field t 0 i) 2 (omega arith)) (le-ltb 0 (field t 4 i) (omega arith)))
+
+  pub links-fail : (field t 0 i ≡ 4 → ⊥) → (field t 0 i ≡ 5 → ⊥) → unlinked t i ≡ false → false ≡ slotTested t i
+  links-fail a b e =
+      cases (leb (field t 0 i) 5)
+      (λ h. slot-fails 6 (rw (linked-is (field t 0 i) (leb-true (field t 0 i) 5 h), le-ltb 3 (field t 0 i) (few (field t 0 i) (leb-true (field t 0 i) 5 h) a b)) e))
+      (λ h. kind-fails (leb-false (field t 0 i) 5 h))
+    where
+      few : (k : ℕ) → k ≤ 5 → (k ≡ 4 → ⊥) → (k ≡ 5 → ⊥) → k ≤ 3
+      few k h a b = omega arith
+
+  as-kind : (k : ℕ) → field t 0 i ≡ k → slotTested t i ≡ slotTestedAs t i k
+  unfolding slotTested
+  as-kind k e = ap (slotTestedAs t i) e
+
+  pub blank-fails : field t 0 i ≤ 1 → (unstarted t i && unlinked t i) ≡ false → false ≡ slotTested t i
+  blank-fails h e =
+      cases (unstarted t i)
+      (λ v. links-fail (λ z. omega arith) (λ z. omega arith) (rw v at e))
+      (λ v. slot-fails 3 (rw (le-ltb 1 (field t 0 i) h) v))
+
+  -- only the name is left: the interval is among the words that `unstarted` tests
+  blank : (a : Bool) → (unstarted t i && unlinked t i) ≡ true
+      → (a && (unstarted t i && (eqb (field t 2 i) 0 && (unlinked t i && true)))) ≡ a
+  blank a e =
+      let z = both (unstarted t i) (unlinked t i) e in
+      go a (unstarted t i) (eqb (field t 2 i) 0) (unlinked t i) (z .0)
+      (all-at (eqb (field t 2 i) 0 ∷ eqb (field t 4 i) 0 ∷ eqb (field t 5 i) 0 ∷ []) (z .0) 0) (z .1)
+    where
+      go : (a p q r : Bool) → p ≡ true → q ≡ true → r ≡ true → (a && (p && (q && (r && true)))) ≡ a
+      go true p q r x y z = rw (x, y, z)
+      go false p q r x y z = refl
+
+  pub free-name : field t 0 i ≡ 0 → (unstarted t i && unlinked t i) ≡ true → eqb (field t 1 i) 0 ≡ slotTested t i
+  free-name e b = sym (as-kind 0 e ∙ blank (eqb (field t 1 i) 0) b)
+
+  pub new-name : field t 0 i ≡ 1 → (unstarted t i && unlinked t i) ≡ true → ltb 0 (field t 1 i) ≡ slotTested t i
+  new-name e b = sym (as-kind 1 e ∙ blank (ltb 0 (field t 1 i)) b)
+
+  -- name and routine are right: the interval decides
+  rest : (name routine a : Bool) → name ≡ true → routine ≡ true → (name && (routine && (a && true))) ≡ a
+  rest name routine a e f = rw (e, f) (and-true a)
+
+  pub waiting-ticks : field t 0 i ≡ 4 → 0 < field t 1 i → 0 < field t 4 i → true ≡ slotTested t i
+  waiting-ticks e n r = sym (as-kind 4 e ∙ rw (lt-ltb 0 (field t 1 i) n, lt-ltb 0 (field t 4 i) r))
+
+  pub waiting-date : field t 0 i ≡ 5 → 0 < field t 1 i → 0 < field t 4 i → eqb (field t 2 i) 0 ≡ slotTested t i
+  waiting-date e n r =
+      sym (as-kind 5 e ∙ rest (ltb 0 (field t 1 i)) (ltb 0 (field t 4 i)) (eqb (field t 2 i) 0) (lt-ltb 0 (field t 1 i) n) (lt-ltb 0 (field t 4 i) r))
+
+  pub idle-interval : (k : Chain) → field t 0 i ≡ idleIn k → 0 < field t 1 i → 0 < field t 4 i → unlinked t i ≡ true
+      → intervalSound k (field t 2 i) ≡ slotTested t i
+  idle-interval k e n r u =
+      sym (at k e ∙ ap (λ (x : Bool). ltb 0 (field t 1 i) && (ltb 0 (field t 4 i) && (intervalSound k (field t 2 i) && (x && true)))) u
+      ∙ rest (ltb 0 (field t 1 i)) (ltb 0 (field t 4 i)) (intervalSound k (field t 2 i)) (lt-ltb 0 (field t 1 i) n) (lt-ltb 0 (field t 4 i) r))
+    where
+      at : (k : Chain) → field t 0 i ≡ idleIn k
+          → slotTested t i ≡ (ltb 0 (field t 1 i) && (ltb 0 (field t 4 i) && (intervalSound k (field t 2 i) && (unlinked t i && true))))
+      at ByTicks e = as-kind 2 e
+      at ByDate e = as-kind 3 e
+
+  -- ---- what the tests say where they pass
+
+  pub record Tested : Type 0 where
+    pub kind : field t 0 i ≤ 5
+    pub noInterval : (field t 0 i ≡ 2 → ⊥) → (field t 0 i ≡ 4 → ⊥) → field t 2 i ≡ 0
+    pub alone : field t 0 i ≤ 3 → (field t 3 i ≡ 0) × (field t 7 i ≡ 0)
+
+  pub tested : slotTested t i ≡ true → Tested
+  unfolding slotTested
+  tested e =
+      let k = field t 0 i in
+      let at = all-at (slotTests k) e in
+      let linkless = eqb (field t 3 i) 0 ∷ eqb (field t 6 i) 0 ∷ eqb (field t 7 i) 0 ∷ [] in
+      record {
+        kind = leb-true k 5 (at 0);
+        noInterval = λ a b. eqb-true (field t 2 i) 0 (rw (kind-is ByTicks k, timed-is k, ne-eqb k 2 a, ne-eqb k 4 b) at (at 5));
+        alone =
+            λ h.
+            let u : unlinked t i ≡ true = rw (linked-is k (omega arith), le-ltb 3 k h) at (at 6) in
+            (eqb-true (field t 3 i) 0 (all-at linkless u 0), eqb-true (field t 7 i) 0 (all-at linkless u 2));
+      }
+
+  abbrev soundTests : ℕ → List Bool
+  soundTests kind =
+      leb kind 5 ∷ (not (eqb kind 0) || eqb (field t 1 i) 0) ∷ (eqb kind 0 || ltb 0 (field t 1 i)) ∷ (ltb 1 kind || unstarted t i)
+      ∷ (ltb kind 2 || ltb 0 (field t 4 i)) ∷ cond (lastByTicks kind) (ltb 0 (field t 2 i)) (eqb (field t 2 i) 0) ∷ (waits kind || unlinked t i) ∷ []
+
+  -- what is not tested is the interval of kind 4
+  pub tested-sound : slotTested t i ≡ true → (field t 0 i ≡ 4 → 1 ≤ field t 2 i) → slotSound t i ≡ true
+  unfolding slotTested slotSound
+  tested-sound e h =
+      let k = field t 0 i in
+      let at = all-at (slotTests k) e in
+      let interval : cond (lastByTicks k) (ltb 0 (field t 2 i)) (eqb (field t 2 i) 0) ≡ true =
+      cases (eqb k 4)
+      (λ q.
+      let is = eqb-true k 4 q in
+      rw (timed-is k, ne-eqb k 2 (λ z. omega arith), q) (lt-ltb 0 (field t 2 i) (h is)))
+      (λ q. rw (kind-is ByTicks k, q) at (at 5)) in
+      all-true (soundTests k) (at 0, (at 1, (at 2, (at 3, (at 4, (interval, (at 6, tt)))))))
+
+  pub sound-tested : slotSound t i ≡ true → slotTested t i ≡ true
+  unfolding slotTested slotSound
+  sound-tested e =
+      let k = field t 0 i in
+      let at = all-at (soundTests k) e in
+      let interval = or-right (waitsIn ByTicks k) (cond (lastByTicks k) (ltb 0 (field t 2 i)) (eqb (field t 2 i) 0)) (at 5) in
+      all-true (slotTests k) (at 0, (at 1, (at 2, (at 3, (at 4, (interval, (at 6, tt)))))))
