@@ -9,12 +9,12 @@ use mathlib.Core.List.{List, [], _∷_, map}
 use lib.ListN.{length, getD, length-map}
 use lib.Dec.{leb, ltb, eqb}
 use borrow.Author.Tests.{ltb-false, eqb-true, eqb-false, eq-eqb, le-leb, lt-ltb, not-false}
-use Rattle.model.specs.Lists.{count, every, allUp, All, Sorted}
+use Rattle.model.specs.Lists.{count, every, All, Sorted}
 use Rattle.model.specs.Kinds.{Chain, ByTicks, ByDate, kindAt, waits, waitsIn, lastByTicks}
 use Rattle.model.specs.State.{Slot, Link, State, chainOf, slotAt}
 use Rattle.calendar.specs.Calendar.{allOf, lastSecond}
 use Rattle.model.specs.Words.{first, word, field, headWord, along, slotFrom}
-use Rattle.model.specs.Sound.{headerSound, unlinked, unstarted, slotSound, previousSound, chainSound, firstSound, ticksSound, rising, datesSound, sound}
+use Rattle.model.specs.Sound.{headerTests, headerSound, unlinked, unstarted, slotTests, slotSound, previousSound, chainTests, chainSound, firstSound, ticksSound, rising, datesSound, soundTests, sound}
 use Rattle.model.proofs.ListLaws.{cases, and-both, every-true, all-up, all-map, all-zip, all-mapped}
 use Rattle.model.proofs.WellFormed.{Shape, WellFormed, Holds}
 use Rattle.model.proofs.Chains.{InSlots, in-slots, fits}
@@ -22,7 +22,6 @@ use Rattle.model.proofs.KindLaws.{in-none}
 use Rattle.model.proofs.Each.{end, _&_, passed}
 use Rattle.model.proofs.Spelling.{headWords, holds-spelled, Loose, Parts, holds-parts, Linked, holds-linked}
 use Rattle.model.proofs.ReadBack.{count-slots, count-is, set-is, links-is, by-next}
-use Rattle.model.proofs.SoundHolds.{headerTests, slotTests, bullets}
 
 or-if : (a b : Bool) → (a ≡ false → b ≡ true) → (a || b) ≡ true
 or-if true b f = refl
@@ -85,7 +84,7 @@ module _ (t : List ℕ) (s : State) (h : Holds t s) where
       let is : l ≡ map (λ w. w .slot) c = by-next t s h k n fit in
       let is′ : more ≡ map (λ w. w .slot) c = by-next t s h k (suc n) (omega arith) in
       let meets : ℕ → Bool = λ j. eqb (count (λ x. eqb x j) l) (cond (waitsIn k (field t 0 j)) 1 0) in
-      passed (leb (length more) n ∷ every (λ j. leb j n) l ∷ allUp meets 1 n ∷ previousSound t 0 l ∷ []) (
+      passed (chainTests k t) (
       le-leb (length more) n (omega (arith, ap length is′, length-map c (λ w. w .slot)))
       & (ap (every (λ j. leb j n)) is ∙ every-true (λ j. leb j n) (map (λ w. w .slot) c)
       (all-mapped (λ w. w .slot) (λ j. leb j n ≡ true) c
@@ -158,7 +157,7 @@ module _ (t : List ℕ) (s : State) (h : Holds t s) where
 
     pub well-formed-sound : sound t ≡ true
     unfolding sound
-    well-formed-sound = passed (bullets t) (
+    well-formed-sound = passed (soundTests t) (
         header-sound
         & all-up (slotSound t) 1 (word t 0) (λ i a b.
         let n : i ≤ length (s .slots) = omega (arith, count-is t s h) in

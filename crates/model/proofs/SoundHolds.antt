@@ -4,17 +4,17 @@ use mathlib.Core.Path.{_≡_, refl, sym, ap, _∙_, subst}
 use Prim.Native.Nat.{ℕ, zero, suc, _+_, _*_, _≤_, _<_}
 use native.Mathlib.Omega.{arith}
 use mathlib.Core.Logic.{_≢_}
-use mathlib.Core.Bool.{Bool, true, false, cond, not, _||_}
+use mathlib.Core.Bool.{Bool, true, false, cond, not}
 use mathlib.Core.List.{List, [], _∷_}
 use lib.ListN.{length, getD, List·getD-eq-default}
 use lib.Dec.{leb, ltb, eqb}
-use borrow.Author.Tests.{leb-true, ltb-true, ltb-false, eqb-true, eqb-false, eq-eqb, ne-eqb, le-ltb}
-use Rattle.model.specs.Lists.{count, every, allUp, All, Sorted}
-use Rattle.model.specs.Kinds.{Chain, ByTicks, ByDate, kindAt, waits, waitsIn, lastByTicks}
+use borrow.Author.Tests.{leb-true, ltb-true, ltb-false, eqb-true, eq-eqb, ne-eqb, le-ltb}
+use Rattle.model.specs.Lists.{count, every, All, Sorted}
+use Rattle.model.specs.Kinds.{Chain, ByTicks, ByDate, kindAt, waits, waitsIn}
 use Rattle.model.specs.State.{Slot, Link, chainOf, free, slotAt}
 use Rattle.calendar.specs.Calendar.{allOf, lastSecond}
 use Rattle.model.specs.Words.{first, word, field, headWord, along, total, linksFrom, links, slotFrom, read}
-use Rattle.model.specs.Sound.{headerSound, unlinked, unstarted, slotSound, previousSound, chainSound, firstSound, ticksSound, rising, datesSound, sound}
+use Rattle.model.specs.Sound.{headerTests, headerSound, unlinked, unstarted, slotTests, slotSound, previousSound, chainTests, chainSound, firstSound, ticksSound, rising, datesSound, soundTests, sound}
 use Rattle.model.proofs.ListLaws.{cases, both, or-else, all-at, up-at, every-all, all, all-map, all-zip}
 use Rattle.model.proofs.WellFormed.{timesIn, Fits, Chained, Shape, WellFormed, Holds}
 use Rattle.model.proofs.KindLaws.{none-in}
@@ -111,13 +111,6 @@ pub record Header (t : List ℕ) : Type 0 where
   pub nine : word t 9 ≡ 0
   pub unset : eqb (word t 2) 1 ≡ false → (word t 3 ≡ 0) × (word t 4 ≡ 0) × (word t 6 ≡ 0)
 
-abbrev pub headerTests : List ℕ → List Bool
-headerTests t =
-    leb 1 (word t 0) ∷ leb (word t 0) 255 ∷ leb (10 + 8 * word t 0) (length t)
-    ∷ leb 1 (word t 1) ∷ leb (word t 1) 1000 ∷ leb (word t 2) 1 ∷ leb (word t 3) lastSecond ∷ ltb (word t 4) (word t 1)
-    ∷ eqb (word t 7) 0 ∷ eqb (word t 8) 0 ∷ eqb (word t 9) 0
-    ∷ (eqb (word t 2) 1 || allOf (eqb (word t 3) 0 ∷ eqb (word t 4) 0 ∷ eqb (word t 6) 0 ∷ [])) ∷ []
-
 header : (t : List ℕ) → headerSound t ≡ true → Header t
 unfolding headerSound
 header t e =
@@ -141,16 +134,6 @@ header t e =
     }
 
 -- ---- what a slot says
-
-abbrev pub slotTests : List ℕ → ℕ → ℕ → List Bool
-slotTests t i kind =
-    leb kind 5
-    ∷ (not (eqb kind 0) || eqb (field t 1 i) 0)
-    ∷ (eqb kind 0 || ltb 0 (field t 1 i))
-    ∷ (ltb 1 kind || unstarted t i)
-    ∷ (ltb kind 2 || ltb 0 (field t 4 i))
-    ∷ cond (lastByTicks kind) (ltb 0 (field t 2 i)) (eqb (field t 2 i) 0)
-    ∷ (waits kind || unlinked t i) ∷ []
 
 module _ (t : List ℕ) (i : ℕ) (ok : slotSound t i ≡ true) where
   slot-test : (m : ℕ) → getD (slotTests t i (field t 0 i)) m true ≡ true
@@ -195,8 +178,7 @@ followed k t e =
     let i = word t (headWord k) in
     let l = along (field t 6) n i in
     let meets : ℕ → Bool = λ j. eqb (count (λ x. eqb x j) l) (cond (waitsIn k (field t 0 j)) 1 0) in
-    let tests = leb (length (along (field t 6) (suc n) i)) n ∷ every (λ j. leb j n) l ∷ allUp meets 1 n ∷ previousSound t 0 l ∷ [] in
-    let at : (m : ℕ) → getD tests m true ≡ true = all-at tests e in
+    let at : (m : ℕ) → getD (chainTests k t) m true ≡ true = all-at (chainTests k t) e in
     let ends = leb-true (length (along (field t 6) (suc n) i)) n (at 0) in
     record {
       head = sym (from-first k t n 0 i ends);
@@ -213,13 +195,10 @@ read-chain t ByDate = refl
 
 -- ---- a sound table
 
-abbrev pub bullets : List ℕ → List Bool
-bullets t = headerSound t ∷ allUp (slotSound t) 1 (word t 0) ∷ chainSound ByTicks t ∷ chainSound ByDate t ∷ ticksSound t ∷ datesSound t ∷ []
-
 module _ (t : List ℕ) (ok : sound t ≡ true) where
-  bullet : (m : ℕ) → getD (bullets t) m true ≡ true
+  bullet : (m : ℕ) → getD (soundTests t) m true ≡ true
   unfolding sound
-  bullet m = all-at (bullets t) ok m
+  bullet m = all-at (soundTests t) ok m
 
   pub sound-header : Header t
   sound-header = header t (bullet 0)

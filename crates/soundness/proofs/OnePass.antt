@@ -3,7 +3,7 @@
 use Prim.Native.Nat.{ℕ, suc, _+_, _-_, _*_, _≤_, _<_}
 use mathlib.Core.Path.{_≡_, refl, sym, ap, ap₂, _∙_, subst}
 use mathlib.Core.Bool.{Bool, true, false, cond, not, _&&_, and-false}
-use mathlib.Core.List.{List, [], _∷_}
+use mathlib.Core.List.{List, _∷_}
 use native.Mathlib.Nat.{pos-of-ne-zero}
 use native.Mathlib.Numerals.{add-one}
 use native.Mathlib.Omega.{arith}
@@ -15,11 +15,11 @@ use Rattle.model.specs.declared.Chain.{Chain}
 use Rattle.model.specs.declared.Chain.the-variants.{ByTicks, ByDate}
 use Rattle.model.specs.Kinds.{waitsIn}
 use Rattle.model.specs.Words.{word, field, headWord, along}
-use Rattle.model.specs.Sound.{headerSound, slotSound, chainSound, sound}
+use Rattle.model.specs.Sound.{headerSound, slotSound, chainSound, soundTests, sound}
 use Rattle.model.proofs.ListLaws.{cases, both, and-both, or-left, or-right, or-else, all-at, all-true, all-up, up-at}
 use Rattle.table.proofs.KindTests.{kindIn, is-in, not-in}
 use Rattle.word_checks.specs.Tested.{slotTested}
-use Rattle.word_checks.proofs.BooleanTests.{same}
+use Rattle.word_checks.proofs.BooleanTests.{same, fails}
 use Rattle.word_checks.proofs.HeaderTests.{header-ranges}
 use Rattle.word_checks.proofs.SlotTests.{tested-sound, sound-tested}
 use Rattle.soundness.specs.Walks.{Stand, standing, start, headsTested, stepTested, step, endTested, walkTested, waiting, leftTested}
@@ -32,18 +32,9 @@ use Rattle.soundness.proofs.UntestedFollows.{Slots, Apart, Dated, kinds
 -- ---- the whole
 
 module _ (t : List ℕ) where
-  parts : Bool → Bool
-  parts header =
-      header && (allUp (slotSound t) 1 (word t 0)
-      && (chainSound ByTicks t && (chainSound ByDate t && (waitsSound ByTicks t && (waitsSound ByDate t && true)))))
-
-  sound-parts : (b : Bool) → headerSound t ≡ b → sound t ≡ parts b
-  unfolding sound parts
-  sound-parts b e = ap parts e
-
   pub header-false : headerSound t ≡ false → false ≡ sound t
-  unfolding parts
-  header-false e = sym (sound-parts false e)
+  unfolding sound
+  header-false e = fails (soundTests t) 0 e
 
   -- ---- what is tested decides
 
@@ -81,13 +72,10 @@ module _ (t : List ℕ) where
       let five : field t 0 (word t 5) ≡ 5 = subst (λ (v : ℕ). field t 0 v ≡ 5) (sym e) (head-kind ByDate b (omega (arith, low, e))) in
       omega (arith, head-kind ByTicks a low, five)))))
 
-  tests-from : sound t ≡ true → headerSound t ≡ true → tests ≡ true
-  unfolding parts leftTested
-  tests-from e h =
-      let at =
-      all-at
-      (true ∷ allUp (slotSound t) 1 N ∷ chainSound ByTicks t ∷ chainSound ByDate t ∷ waitsSound ByTicks t ∷ waitsSound ByDate t ∷ [])
-      (sym (sound-parts true h) ∙ e) in
+  tests-from : sound t ≡ true → tests ≡ true
+  unfolding sound leftTested
+  tests-from e =
+      let at = all-at (soundTests t) e in
       let a = whole ByTicks (at 2) (at 4) in
       let b = whole ByDate (at 3) (at 5) in
       let x = walkTested ByTicks t N (steps ByTicks) (start ByTicks t) in
@@ -98,7 +86,7 @@ module _ (t : List ℕ) where
       (and-both x y (ticks-tested t (steps ByTicks) (start ByTicks t) a) (dates-tested t (steps ByDate) (start ByDate t) refl b)))
 
   tests-to : tests ≡ true → headerSound t ≡ true → sound t ≡ true
-  unfolding parts leftTested
+  unfolding sound leftTested
   tests-to e h =
       let x = walkTested ByTicks t N (steps ByTicks) (start ByTicks t) in
       let y = walkTested ByDate t N (steps ByDate) (start ByDate t) in
@@ -124,10 +112,7 @@ module _ (t : List ℕ) where
       (λ j a b.
       let high : j ≤ N = omega arith in
       tested-sound t j (slots j a high) (λ k. interval-low t (steps ByTicks) N (start ByTicks t) ticks j (met j a high k))) in
-      sound-parts true h
-      ∙ all-true
-      (true ∷ allUp (slotSound t) 1 N ∷ chainSound ByTicks t ∷ chainSound ByDate t ∷ waitsSound ByTicks t ∷ waitsSound ByDate t ∷ [])
-      (refl, (sounds, (u .0, (v .0, (u .1, (v .1, tt))))))
+      all-true (soundTests t) (h, (sounds, (u .0, (v .0, (u .1, (v .1, tt))))))
     where
       heads-zero : headsTested t ≡ true → word t 5 ≡ word t 6 → word t 5 ≡ 0
       heads-zero e z =
@@ -135,7 +120,7 @@ module _ (t : List ℕ) where
           (or-else (not (eqb (word t 5) (word t 6))) (eqb (word t 5) 0) e (ap not (eq-eqb (word t 5) (word t 6) z)))
 
   tests-decide : headerSound t ≡ true → sound t ≡ tests
-  tests-decide h = same (sound t) tests (λ e. tests-from e h) (λ e. tests-to e h)
+  tests-decide h = same (sound t) tests tests-from (λ e. tests-to e h)
 
   pub heads-false : headerSound t ≡ true → headsTested t ≡ false → false ≡ sound t
   heads-false h e =

@@ -2,7 +2,7 @@
 use Prim.Native.Nat.{ℕ, _+_, _≤_}
 use mathlib.Core.Path.{_≡_, sym, ap}
 use mathlib.Core.Bool.{Bool, true, false, _&&_, and-true}
-use mathlib.Core.List.{List, [], _∷_}
+use mathlib.Core.List.{List}
 use lib.Dec.{leb, eqb}
 use borrow.Author.Tests.{eqb-true, eq-eqb, le-leb, leb-true}
 use Rattle.model.specs.declared.Chain.{Chain}
@@ -10,7 +10,7 @@ use Rattle.model.specs.declared.Chain.the-variants.{ByTicks, ByDate}
 use Rattle.model.specs.Words.{field}
 use Rattle.model.proofs.ListLaws.{both, and-both, all-at, all-true}
 use Rattle.word_checks.proofs.BooleanTests.{never}
-use Rattle.soundness.specs.Walks.{Stand, linkTested, waitTested, stepTested}
+use Rattle.soundness.specs.Walks.{Stand, linkTests, linkTested, waitTested, stepTested}
 
 pub record InLink (t : List ℕ) (n i p : ℕ) : Type 0 where
   pub low : 1 ≤ i
@@ -18,18 +18,15 @@ pub record InLink (t : List ℕ) (n i p : ℕ) : Type 0 where
   pub previous : field t 7 i ≡ p
 
 module _ (t : List ℕ) (n i p : ℕ) where
-  abbrev linkTests : List Bool
-  linkTests = leb 1 i ∷ leb i n ∷ eqb (field t 7 i) p ∷ []
-
   pub in-link : linkTested t n i p ≡ true → InLink t n i p
   unfolding linkTested
   in-link e =
-      let at = all-at linkTests e in
+      let at = all-at (linkTests t n i p) e in
       record { low = leb-true 1 i (at 0); high = leb-true i n (at 1); previous = eqb-true (field t 7 i) p (at 2) }
 
   pub link-in : InLink t n i p → linkTested t n i p ≡ true
   unfolding linkTested
-  link-in h = all-true linkTests (le-leb 1 i (h .low), (le-leb i n (h .high), (eq-eqb (field t 7 i) p (h .previous), tt)))
+  link-in h = all-true (linkTests t n i p) (le-leb 1 i (h .low), (le-leb i n (h .high), (eq-eqb (field t 7 i) p (h .previous), tt)))
 
   pub no-link : (InLink t n i p → ⊥) → false ≡ linkTested t n i p
   no-link f = never (linkTested t n i p) (λ e. f (in-link e))

@@ -10,13 +10,13 @@ use lib.ListN.{length}
 use lib.Dec.{leb, eqb}
 use borrow.Author.Tests.{eqb-true, eqb-false, eq-eqb, le-leb, leb-true}
 use Rattle.calendar.specs.Calendar.{lastSecond}
-use Rattle.model.specs.Lists.{every, allUp, All}
+use Rattle.model.specs.Lists.{every, All}
 use Rattle.model.specs.declared.Chain.{Chain}
 use Rattle.model.specs.declared.Chain.the-variants.{ByTicks, ByDate}
 use Rattle.model.specs.Kinds.{waitsIn}
 use Rattle.model.specs.State.{Link}
 use Rattle.model.specs.Words.{word, field, headWord, along, total, linksFrom}
-use Rattle.model.specs.Sound.{previousSound, chainSound, firstSound, ticksSound, rising, datesSound}
+use Rattle.model.specs.Sound.{previousSound, chainTests, chainSound, firstSound, ticksSound, rising, datesSound}
 use Rattle.model.proofs.ListLaws.{cases, both, and-both, all-at, all-true, all-up, up-at, every-true, every-all, all-map, all-zip}
 use Rattle.table.proofs.KindTests.{kindIn, kind-is}
 use Rattle.word_checks.proofs.BooleanTests.{same, exchange}
@@ -148,11 +148,6 @@ module _ (k : Chain) (t : List ℕ) where
   abbrev C : ℕ
   C = waiting k t 1 N
 
-  abbrev chainTests : List ℕ → List Bool
-  chainTests slots =
-      leb (length (along (field t 6) (suc N) head)) N ∷ every (λ i. leb i N) slots
-      ∷ allUp (λ i. eqb (times i slots) (waits i)) 1 N ∷ previousSound t 0 slots ∷ []
-
   chain-from : linked N C head 0 ≡ true → chainSound k t ≡ true
   unfolding chainSound
   chain-from e =
@@ -174,7 +169,7 @@ module _ (k : Chain) (t : List ℕ) where
         none-times (OfKind N) l j (p .kind) (λ z. eqb-false (field t 0 j) (kindIn k) (sym (kind-is k (field t 0 j)) ∙ q) (z .1)),
       ))))
       (sum-times l 1 N range ∙ len ∙ waiting-sum 1 N) in
-      all-true (chainTests (along (field t 6) N head)) (
+      all-true (chainTests k t) (
         le-leb (length (along (field t 6) (suc N) head)) N (rw is′ (omega arith)),
         (
           rw is (every-true (λ i. leb i N) l (all-map (λ x q. le-leb x N (q .0)) l (p .kind))),
@@ -189,7 +184,7 @@ module _ (k : Chain) (t : List ℕ) where
   unfolding chainSound
   chain-to e =
       let l = along (field t 6) N head in
-      let at = all-at (chainTests l) e in
+      let at = all-at (chainTests k t) e in
       let ends : Ends (field t 6) (length l) head = ends-of (field t 6) N head (leb-true (length (along (field t 6) (suc N) head)) N (at 0)) in
       let range : All (λ x. (1 ≤ x) × (x < 1 + N)) l =
       all-map (λ x q. (q .0, omega (arith, leb-true x N (q .1)))) l
@@ -220,7 +215,7 @@ module _ (k : Chain) (t : List ℕ) where
   unfolding chainSound
   met-once e j a b q =
       let l = along (field t 6) N head in
-      eqb-true (times j l) (waits j) (up-at (λ i. eqb (times i l) (waits i)) 1 N (all-at (chainTests l) e 2) j a (omega arith))
+      eqb-true (times j l) (waits j) (up-at (λ i. eqb (times i l) (waits i)) 1 N (all-at (chainTests k t) e 2) j a (omega arith))
       ∙ rw (kind-is k (field t 0 j), eq-eqb (field t 0 j) (kindIn k) q)
 
 -- ---- the waits

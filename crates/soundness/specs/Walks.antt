@@ -34,8 +34,11 @@ abbrev pub start : Chain → List ℕ → Stand
 start k t = standing (word t (headWord k)) 0 (origin k t)
 
 -- slot i is one of n, and slot p stands before it
+abbrev pub linkTests : List ℕ → ℕ → ℕ → ℕ → List Bool
+linkTests t n i p = leb 1 i ∷ leb i n ∷ eqb (field t 7 i) p ∷ []
+
 unfoldable pub linkTested : List ℕ → ℕ → ℕ → ℕ → Bool
-linkTested t n i p = allOf (leb 1 i ∷ leb i n ∷ eqb (field t 7 i) p ∷ [])
+linkTested t n i p = allOf (linkTests t n i p)
 
 -- Ticks left are 1 at least and not above the interval. A date is not below the one before it.
 abbrev pub waitTested : Chain → List ℕ → ℕ → ℕ → Bool

@@ -1,24 +1,17 @@
 -- The header's tests: what they say where they pass, and what is left of them where most have passed. Assumes nothing.
 use Prim.Native.Nat.{ℕ, _+_, _*_, _≤_, _<_}
 use mathlib.Core.Path.{_≡_, sym, _∙_}
-use mathlib.Core.Bool.{Bool, true, false, _||_, and-true}
+use mathlib.Core.Bool.{true, false, _||_, and-true}
 use mathlib.Core.List.{List, [], _∷_}
 use lib.ListN.{length}
-use lib.Dec.{leb, ltb, eqb}
+use lib.Dec.{eqb}
 use borrow.Author.Tests.{eq-eqb, ne-eqb, lt-ltb, le-leb, leb-true, ltb-true}
 use Rattle.calendar.specs.Calendar.{lastSecond}
 use Rattle.model.proofs.ListLaws.{clash, all-at, all-true}
 use Rattle.model.specs.Words.{word}
-use Rattle.model.specs.Sound.{headerSound}
+use Rattle.model.specs.Sound.{headerTests, headerSound}
 use Rattle.word_checks.specs.Tested.{allZero}
 use Rattle.word_checks.proofs.BooleanTests.{never}
-
-abbrev headerTests : List ℕ → List Bool
-headerTests t =
-    leb 1 (word t 0) ∷ leb (word t 0) 255 ∷ leb (10 + 8 * word t 0) (length t)
-    ∷ leb 1 (word t 1) ∷ leb (word t 1) 1000 ∷ leb (word t 2) 1 ∷ leb (word t 3) lastSecond ∷ ltb (word t 4) (word t 1)
-    ∷ eqb (word t 7) 0 ∷ eqb (word t 8) 0 ∷ eqb (word t 9) 0
-    ∷ (eqb (word t 2) 1 || allZero (word t 3) (word t 4) (word t 6)) ∷ []
 
 -- what all of them say but the last four
 pub record Ranges (t : List ℕ) : Type 0 where

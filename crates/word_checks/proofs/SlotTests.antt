@@ -2,7 +2,7 @@
 -- what the walks need of the slot, and the slot is sound if besides its interval is 1 or more where its kind is 4. Assumes nothing.
 use Prim.Native.Nat.{ℕ, _≤_, _<_}
 use mathlib.Core.Path.{_≡_, refl, sym, ap, _∙_}
-use mathlib.Core.Bool.{Bool, true, false, cond, not, _&&_, _||_, and-true}
+use mathlib.Core.Bool.{Bool, true, false, cond, _&&_, and-true}
 use mathlib.Core.List.{List, [], _∷_}
 use native.Mathlib.Omega.{arith}
 use lib.ListN.{getD}
@@ -11,11 +11,11 @@ use borrow.Author.Tests.{eqb-true, ne-eqb, le-ltb, lt-ltb, lt-leb, leb-true, leb
 use Rattle.model.proofs.ListLaws.{cases, both, or-right, all-at, all-true}
 use Rattle.model.specs.declared.Chain.{Chain}
 use Rattle.model.specs.declared.Chain.the-variants.{ByTicks, ByDate}
-use Rattle.model.specs.Kinds.{waits, waitsIn, lastByTicks}
+use Rattle.model.specs.Kinds.{waitsIn, lastByTicks}
 use Rattle.model.specs.Words.{field}
-use Rattle.model.specs.Sound.{slotSound, unlinked, unstarted}
+use Rattle.model.specs.Sound.{slotTests, slotSound, unlinked, unstarted}
 use Rattle.table.proofs.KindTests.{kind-is, timed-is, linked-is}
-use Rattle.word_checks.specs.Tested.{slotTested, slotTestedAs}
+use Rattle.word_checks.specs.Tested.{slotTestsMade, slotTestedAs, slotTested}
 use Rattle.word_checks.proofs.BooleanTests.{fails}
 
 -- Interval is 1 or more after a start by ticks, zero after one by date.
@@ -29,15 +29,9 @@ idleIn ByTicks = 2
 idleIn ByDate = 3
 
 module _ (t : List ℕ) (i : ℕ) where
-  abbrev slotTests : ℕ → List Bool
-  slotTests kind =
-      leb kind 5 ∷ (not (eqb kind 0) || eqb (field t 1 i) 0) ∷ (eqb kind 0 || ltb 0 (field t 1 i)) ∷ (ltb 1 kind || unstarted t i)
-      ∷ (ltb kind 2 || ltb 0 (field t 4 i)) ∷ (waitsIn ByTicks kind || cond (lastByTicks kind) (ltb 0 (field t 2 i)) (eqb (field t 2 i) 0))
-      ∷ (waits kind || unlinked t i) ∷ []
-
-  slot-fails : (k : ℕ) → getD (slotTests (field t 0 i)) k true ≡ false → false ≡ slotTested t i
+  slot-fails : (k : ℕ) → getD (slotTestsMade t i (field t 0 i)) k true ≡ false → false ≡ slotTested t i
   unfolding slotTested
-  slot-fails k e = fails (slotTests (field t 0 i)) k e
+  slot-fails k e = fails (slotTestsMade t i (field t 0 i)) k e
 
   pub kind-fails : 5 < field t 0 i → false ≡ slotTested t i
   kind-fails h = slot-fails 0 (lt-leb (field t 0 i) 5 h)
@@ -118,7 +112,7 @@ module _ (t : List ℕ) (i : ℕ) where
   unfolding slotTested
   tested e =
       let k = field t 0 i in
-      let at = all-at (slotTests k) e in
+      let at = all-at (slotTestsMade t i k) e in
       let linkless = eqb (field t 3 i) 0 ∷ eqb (field t 6 i) 0 ∷ eqb (field t 7 i) 0 ∷ [] in
       record {
         kind = leb-true k 5 (at 0);
@@ -129,29 +123,24 @@ module _ (t : List ℕ) (i : ℕ) where
             (eqb-true (field t 3 i) 0 (all-at linkless u 0), eqb-true (field t 7 i) 0 (all-at linkless u 2));
       }
 
-  abbrev soundTests : ℕ → List Bool
-  soundTests kind =
-      leb kind 5 ∷ (not (eqb kind 0) || eqb (field t 1 i) 0) ∷ (eqb kind 0 || ltb 0 (field t 1 i)) ∷ (ltb 1 kind || unstarted t i)
-      ∷ (ltb kind 2 || ltb 0 (field t 4 i)) ∷ cond (lastByTicks kind) (ltb 0 (field t 2 i)) (eqb (field t 2 i) 0) ∷ (waits kind || unlinked t i) ∷ []
-
   -- what is not tested is the interval of kind 4
   pub tested-sound : slotTested t i ≡ true → (field t 0 i ≡ 4 → 1 ≤ field t 2 i) → slotSound t i ≡ true
   unfolding slotTested slotSound
   tested-sound e h =
       let k = field t 0 i in
-      let at = all-at (slotTests k) e in
+      let at = all-at (slotTestsMade t i k) e in
       let interval : cond (lastByTicks k) (ltb 0 (field t 2 i)) (eqb (field t 2 i) 0) ≡ true =
       cases (eqb k 4)
       (λ q.
       let is = eqb-true k 4 q in
       rw (timed-is k, ne-eqb k 2 (λ z. omega arith), q) (lt-ltb 0 (field t 2 i) (h is)))
       (λ q. rw (kind-is ByTicks k, q) at (at 5)) in
-      all-true (soundTests k) (at 0, (at 1, (at 2, (at 3, (at 4, (interval, (at 6, tt)))))))
+      all-true (slotTests t i k) (at 0, (at 1, (at 2, (at 3, (at 4, (interval, (at 6, tt)))))))
 
   pub sound-tested : slotSound t i ≡ true → slotTested t i ≡ true
   unfolding slotTested slotSound
   sound-tested e =
       let k = field t 0 i in
-      let at = all-at (soundTests k) e in
+      let at = all-at (slotTests t i k) e in
       let interval = or-right (waitsIn ByTicks k) (cond (lastByTicks k) (ltb 0 (field t 2 i)) (eqb (field t 2 i) 0)) (at 5) in
-      all-true (slotTests k) (at 0, (at 1, (at 2, (at 3, (at 4, (interval, (at 6, tt)))))))
+      all-true (slotTestsMade t i k) (at 0, (at 1, (at 2, (at 3, (at 4, (interval, (at 6, tt)))))))

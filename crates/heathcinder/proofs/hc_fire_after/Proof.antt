@@ -17,7 +17,7 @@ same-length c = search needs
 returns : tie.Need-returns
 returns c =
     let call = c .before .before .before .fire-after in
-    answers-none _ _ refl (call .ensures) (c .status-of .ensures)
+    answers-none _ _ refl refl (call .ensures) (c .status-of .ensures)
 
 pub hc-fire-after-spec : {M : Type 1} → statement M
 hc-fire-after-spec =

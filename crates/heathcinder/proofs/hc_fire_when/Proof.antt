@@ -21,7 +21,7 @@ same-length c = search needs
 returns : tie.Need-returns
 returns c =
     let call = c .before .before .before .fire-when in
-    answers-none _ _ refl (rw (c .before .before .before .before .before .wall-time .ensures) at (call .ensures)) (c .status-of .ensures)
+    answers-none _ _ refl refl (rw (c .before .before .before .before .before .wall-time .ensures) at (call .ensures)) (c .status-of .ensures)
 
 pub hc-fire-when-spec : {M : Type 1} → statement M
 hc-fire-when-spec =

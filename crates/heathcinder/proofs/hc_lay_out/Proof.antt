@@ -17,7 +17,7 @@ same-length c = search needs
 returns : tie.Need-returns
 returns c =
     let call = c .before .before .before .lay-out in
-    answers-none _ _ refl (call .ensures) (c .status-of .ensures)
+    answers-none _ _ refl refl (call .ensures) (c .status-of .ensures)
 
 pub hc-lay-out-spec : {M : Type 1} → statement M
 hc-lay-out-spec = tie.close (tie.spec lay-out-requires status-of-requires same-length returns)

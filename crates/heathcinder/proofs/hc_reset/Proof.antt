@@ -17,7 +17,7 @@ same-length c = search needs
 returns : tie.Need-returns
 returns c =
     let call = c .before .before .before .reset in
-    answers-none _ _ refl (call .ensures) (c .status-of .ensures)
+    answers-none _ _ refl refl (call .ensures) (c .status-of .ensures)
 
 pub hc-reset-spec : {M : Type 1} → statement M
 hc-reset-spec = tie.close (tie.spec reset-requires status-of-requires same-length returns)
