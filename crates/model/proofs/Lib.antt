@@ -32,3 +32,4 @@ pub mod Demand3
 pub mod Readings
 pub mod CallReadings
 pub mod Cases
+pub mod WorkedCases
