@@ -6,7 +6,7 @@ use mathlib.Core.Bool.{true, false, not}
 use mathlib.Core.List.{List}
 use lib.ListN.{length}
 use Rattle.model.specs.State.{State, indexOf, names}
-use Rattle.model.specs.Words.{over, read}
+use Rattle.model.specs.Words.{writtenOver, read}
 use Rattle.model.specs.Sound.{sound}
 use Rattle.model.proofs.SoundHolds.{sound-holds, sound-header}
 use Rattle.links.specs.Places.{InTable}
@@ -33,5 +33,5 @@ pub unknown : (t : List ℕ) (id : ℕ) {i : ℕ} → i ≡ namedSlot t id → i
 unknown t id {i} e z = ap not (named-none t id i e z)
 
 -- what was done at the slot was done at the id's index
-pub at-index : {t : List ℕ} {id i : ℕ} (f : ℕ → State) {u : List ℕ} → Named t id i → u ≡ over (f i) t → u ≡ over (f (indexOf id)) t
-at-index {t} f at e = e ∙ ap (λ (k : ℕ). over (f k) t) (at .index)
+pub at-index : {t : List ℕ} {id i : ℕ} (f : ℕ → State) {u : List ℕ} → Named t id i → u ≡ writtenOver (f i) t → u ≡ writtenOver (f (indexOf id)) t
+at-index {t} f at e = e ∙ ap (λ (k : ℕ). writtenOver (f k) t) (at .index)

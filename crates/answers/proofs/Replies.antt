@@ -13,11 +13,11 @@ use Rattle.model.specs.Status.{Refusal, numberOf}
 use Rattle.model.specs.Calls.{Call, lentTo}
 use Rattle.model.specs.State.{listed}
 use Rattle.model.specs.Directives.{refusals, effect}
-use Rattle.model.specs.Words.{over, word, read}
+use Rattle.model.specs.Words.{writtenOver, read, clockSet}
 use Rattle.model.specs.Sound.{sound}
 use Rattle.model.specs.Outcome.{outcomeOf, refused, written, accepted, outcome}
 use Rattle.model.proofs.SoundHolds.{sound-holds}
-use Rattle.model.proofs.Refused.{noRule, none-given, first-given}
+use Rattle.model.proofs.AcceptedCalls.{noRule, none-given, first-given}
 use Rattle.model.proofs.OutcomeLaws.{status-is, outcome-accepted, refused-by}
 
 -- the rules of a call on a table
@@ -34,7 +34,7 @@ module _ (t : List ℕ) (c : Call) where
 
   -- answer, table and list as the call leaves them
   pub done : (answer table list : List ℕ) → All (λ r. r .given ≡ false) (rules t c) → answer ≡ effect (read t) c .answer
-      → table ≡ over (effect (read t) c .state) t → list ≡ written (map (listed (read t .slots)) (effect (read t) c .fired)) (lentTo c)
+      → table ≡ writtenOver (effect (read t) c .state) t → list ≡ written (map (listed (read t .slots)) (effect (read t) c .fired)) (lentTo c)
       → outcomeOf 0 answer table list ≡ outcome t c
   done answer table list none a u l = (λ j. outcomeOf 0 (a j) (u j) (l j)) ∙ accepts none
 
@@ -51,13 +51,13 @@ pub tested : {t : List ℕ} {r : Bool} → r ≡ sound t → not r ≡ false →
 tested {t} {r} e n = record { ok = sym e ∙ not-false r n; rule = not-same e n }
 
 -- a table that a call only looks at
-pub same-table : (t : List ℕ) → sound t ≡ true → t ≡ over (read t) t
+pub same-table : (t : List ℕ) → sound t ≡ true → t ≡ writtenOver (read t) t
 same-table t ok = sym (sound-holds t ok .is)
 
 -- ---- the clock is set, or not
 
-pub clock-unset : (t : List ℕ) → word t 2 ≢ 1 → not (read t .clock .isSet) ≡ true
-clock-unset t n = ap not (ne-eqb (word t 2) 1 n)
+pub clock-unset : (t : List ℕ) → clockSet t ≢ 1 → not (read t .clock .isSet) ≡ true
+clock-unset t n = ap not (ne-eqb (clockSet t) 1 n)
 
-pub clock-running : (t : List ℕ) → word t 2 ≡ 1 → not (read t .clock .isSet) ≡ false
-clock-running t e = ap not (eq-eqb (word t 2) 1 e)
+pub clock-running : (t : List ℕ) → clockSet t ≡ 1 → not (read t .clock .isSet) ≡ false
+clock-running t e = ap not (eq-eqb (clockSet t) 1 e)

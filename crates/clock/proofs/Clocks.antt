@@ -16,7 +16,7 @@ use Rattle.model.specs.declared.Chain.the-variants.{ByDate}
 use Rattle.model.specs.Lists.{All}
 use Rattle.model.specs.Calls.{tick, setClock}
 use Rattle.model.specs.Directives.{clockStep, numbers}
-use Rattle.model.specs.Words.{word, read}
+use Rattle.model.specs.Words.{read, seconds, ticksInto}
 use Rattle.model.specs.Sound.{sound}
 use Rattle.model.specs.Outcome.{outcomeOf, outcome}
 use Rattle.model.proofs.SoundHolds.{sound-header}
@@ -25,11 +25,11 @@ use Rattle.answers.proofs.Replies.{rules, done}
 
 module _ (t : List ℕ) where
   -- the seconds of a sound table are not past the last
-  pub in-calendar : {d : Date} → sound t ≡ true → d ≡ dateAnswer (word t 3) → d ≡ PastTheLast → ⊥
-  in-calendar ok e p = omega (arith, past-answer (word t 3) e p, sound-header t ok .second-high)
+  pub in-calendar : {d : Date} → sound t ≡ true → d ≡ dateAnswer (seconds t) → d ≡ PastTheLast → ⊥
+  in-calendar ok e p = omega (arith, past-answer (seconds t) e p, sound-header t ok .second-high)
 
-  pub time-now : {d : Date} {w : WallTime} → d ≡ dateAnswer (word t 3) → d ≡ On w → numbers w (word t 4) ≡ numbers (dateOf (word t 3)) (word t 4)
-  time-now {w = w} e p = ap (λ (x : WallTime). numbers x (word t 4)) (on-answer (word t 3) w e p .is)
+  pub time-now : {d : Date} {w : WallTime} → d ≡ dateAnswer (seconds t) → d ≡ On w → numbers w (ticksInto t) ≡ numbers (dateOf (seconds t)) (ticksInto t)
+  time-now {w = w} e p = ap (λ (x : WallTime). numbers x (ticksInto t)) (on-answer (seconds t) w e p .is)
 
 -- ---- set clock
 

@@ -7,15 +7,15 @@ use mathlib.Core.List.{List}
 use lib.ListN.{length}
 use borrow.Author.Tests.{le-ltb, lt-ltb}
 use Rattle.model.specs.Directives.{isShort}
-use Rattle.model.specs.Words.{word, read}
+use Rattle.model.specs.Words.{read, slotCount}
 use Rattle.model.proofs.ReadBack.{slots-length}
 
 module _ (t list : List ℕ) where
-  pub too-short : {n : ℕ} → n ≡ 3 * word t 0 → length list < n → isShort (read t) list ≡ true
+  pub too-short : {n : ℕ} → n ≡ 3 * slotCount t → length list < n → isShort (read t) list ≡ true
   too-short e h = lt-ltb (length list) (3 * length (read t .slots)) (omega (arith, slots-length t))
 
-  pub long-enough : {n : ℕ} → n ≡ 3 * word t 0 → n ≤ length list → 3 * word t 0 ≤ length list
+  pub long-enough : {n : ℕ} → n ≡ 3 * slotCount t → n ≤ length list → 3 * slotCount t ≤ length list
   long-enough e h = omega arith
 
-  pub not-short : 3 * word t 0 ≤ length list → isShort (read t) list ≡ false
+  pub not-short : 3 * slotCount t ≤ length list → isShort (read t) list ≡ false
   not-short h = le-ltb (length list) (3 * length (read t .slots)) (omega (arith, slots-length t))

@@ -14,18 +14,18 @@ use Rattle.model.specs.declared.Chain.{Chain}
 use Rattle.model.specs.declared.Chain.the-variants.{ByTicks, ByDate}
 use Rattle.model.specs.Kinds.{sameChain}
 use Rattle.model.specs.Lists.{keep, All, Sorted}
-use Rattle.model.specs.State.{Slot, Link, State, chainOf, rechain, slotAt, putAt, without, idBase, Fired, listed}
+use Rattle.model.specs.State.{Slot, Link, State, chainOf, withChain, slotAt, putAt, without, idBase, Fired, listed}
 use Rattle.model.specs.Directives.{stopped, became, idled, firedAll, due, fire}
 use Rattle.model.specs.Directives as model
-use Rattle.model.specs.Words.{word, field, headWord, slotFrom, read, over}
+use Rattle.model.specs.Words.{word, headWord, slotFrom, read, writtenOver, waitOf, routineOf, dataOf}
 use Rattle.model.specs.Outcome.{entryWords}
 use Rattle.model.proofs.ListLaws.{all-map, keep-all, keep-none}
 use Rattle.model.proofs.WellFormed.{timesIn, Holds}
 use Rattle.model.proofs.Chains.{times-own, without-none, once, once-apart}
 use Rattle.model.proofs.KindLaws.{on-numbers, each-chain}
-use Rattle.model.proofs.Spelling.{length-over}
+use Rattle.model.proofs.StateWords.{length-over}
 use Rattle.model.proofs.ReadBack.{slots-length, slot-read}
-use Rattle.model.proofs.Steps.{rechain-slots, rechain-clock, rechain-own, rechain-apart, stopped-chain, length-fire, chained-fire}
+use Rattle.model.proofs.Steps.{with-chain-slots, with-chain-clock, with-chain-own, with-chain-apart, stopped-chain, length-fire, chained-fire}
 use Rattle.links.specs.Places.{InTable}
 use Rattle.links.proofs.NextState.{Next, next-read, next-holds, next-then}
 use Rattle.links.proofs.Restart.{stoppedAt, stop-next}
@@ -44,7 +44,7 @@ next-fires {s = s} x {k} {limit} f =
 
 -- the state when it has stopped
 abbrev fired : Chain → State → Link → List Link → State
-fired k s y ys = rechain k s (firedAll (y ∷ []) (s .slots)) ys
+fired k s y ys = withChain k s (firedAll (y ∷ []) (s .slots)) ys
 
 -- two states are the same where their parts are
 same-state : (s s′ : State) → s .slots ≡ s′ .slots → s .clock ≡ s′ .clock → ((m : Chain) → chainOf m s ≡ chainOf m s′) → s ≡ s′
@@ -58,7 +58,7 @@ same-state s s′ slots clock chains = λ d. record {
 -- to fire is to stop
 fired-idle : (x : Slot) → idled x ≡ model.fired x
 fired-idle x =
-    ap (λ (n : ℕ). became n x) (on-numbers (λ _ y. y .stopped) (λ _ y. y .fired) refl (λ n _. refl) (x .kind))
+    ap (λ (n : ℕ). became n x) (on-numbers (λ _ y. y .whenStopped) (λ _ y. y .whenFired) refl (λ n _. refl) (x .kind))
 
 stopped-first : (k : Chain) (s : State) (y : Link) (ys : List Link) → chainOf k s ≡ y ∷ ys → timesIn ys (y .slot) ≡ 0
     → ((m : Chain) → sameChain m k ≡ false → timesIn (chainOf m s) (y .slot) ≡ 0)
@@ -68,26 +68,26 @@ stopped-first k s y ys whole p q =
     let x = idled (slotAt (s .slots) i) in
     let slots = firedAll (y ∷ []) (s .slots) in
     same-state (stopped s i x) (fired k s y ys)
-    (ap (putAt (s .slots) i) (fired-idle (slotAt (s .slots) i)) ∙ sym (rechain-slots s slots ys k)) (sym (rechain-clock s slots ys k))
+    (ap (putAt (s .slots) i) (fired-idle (slotAt (s .slots) i)) ∙ sym (with-chain-slots s slots ys k)) (sym (with-chain-clock s slots ys k))
     (each-chain (λ m. chainOf m (stopped s i x) ≡ chainOf m (fired k s y ys)) k
-    (stopped-chain s i x k ∙ ap (without i) whole ∙ rw (eq-eqb i i refl) (without-none i ys p) ∙ sym (rechain-own s slots ys k))
-    (λ m away. stopped-chain s i x m ∙ without-none i (chainOf m s) (q m away) ∙ sym (rechain-apart s slots ys k m away)))
+    (stopped-chain s i x k ∙ ap (without i) whole ∙ rw (eq-eqb i i refl) (without-none i ys p) ∙ sym (with-chain-own s slots ys k))
+    (λ m away. stopped-chain s i x m ∙ without-none i (chainOf m s) (q m away) ∙ sym (with-chain-apart s slots ys k m away)))
 
-fire-rechain : (k : Chain) (limit : ℕ) (s : State) (slots : List Slot) (c : List Link)
-    → fire k limit (rechain k s slots c) ≡ rechain k s (firedAll (keep (λ w. leb (w .wait) limit) c) slots) (keep (λ w. ltb limit (w .wait)) c)
-fire-rechain ByTicks limit s slots c = refl
-fire-rechain ByDate limit s slots c = refl
+fire-with-chain : (k : Chain) (limit : ℕ) (s : State) (slots : List Slot) (c : List Link)
+    → fire k limit (withChain k s slots c) ≡ withChain k s (firedAll (keep (λ w. leb (w .wait) limit) c) slots) (keep (λ w. ltb limit (w .wait)) c)
+fire-with-chain ByTicks limit s slots c = refl
+fire-with-chain ByDate limit s slots c = refl
 
 module _ (k : Chain) (limit : ℕ) (s : State) (y : Link) (ys : List Link) (whole : chainOf k s ≡ y ∷ ys) (low : y .wait ≤ limit) where
   due-first : due k limit s ≡ y ∷ due k limit (fired k s y ys)
   due-first =
       ap (keep (λ w. leb (w .wait) limit)) whole
-      ∙ rw (le-leb (y .wait) limit low, rechain-own s (firedAll (y ∷ []) (s .slots)) ys k)
+      ∙ rw (le-leb (y .wait) limit low, with-chain-own s (firedAll (y ∷ []) (s .slots)) ys k)
 
   fire-first : fire k limit s ≡ fire k limit (fired k s y ys)
   fire-first =
-      ap (λ (c : List Link). rechain k s (firedAll (keep (λ w. leb (w .wait) limit) c) (s .slots)) (keep (λ w. ltb limit (w .wait)) c)) whole
-      ∙ rw (le-leb (y .wait) limit low, le-ltb limit (y .wait) low) (sym (fire-rechain k limit s (firedAll (y ∷ []) (s .slots)) ys))
+      ap (λ (c : List Link). withChain k s (firedAll (keep (λ w. leb (w .wait) limit) c) (s .slots)) (keep (λ w. ltb limit (w .wait)) c)) whole
+      ∙ rw (le-leb (y .wait) limit low, le-ltb limit (y .wait) low) (sym (fire-with-chain k limit s (firedAll (y ∷ []) (s .slots)) ys))
 
 -- ---- none is due
 
@@ -98,12 +98,12 @@ none-due k t l limit n h late =
     let rest : keep (λ w. ltb limit (w .wait)) c ≡ c = keep-all (λ w. ltb limit (w .wait)) c (all-map (λ w p. lt-ltb limit (w .wait) p) c late) in
     record {
       count = omega (arith, ap length none);
-      table = sym (ap₂ (λ (d e : List Link). over (rechain k (read t) (firedAll d (read t .slots)) e) t) none rest
-          ∙ ap (λ (s : State). over s t) (same k (read t)) ∙ h .is);
+      table = sym (ap₂ (λ (d e : List Link). writtenOver (withChain k (read t) (firedAll d (read t .slots)) e) t) none rest
+          ∙ ap (λ (s : State). writtenOver s t) (same k (read t)) ∙ h .is);
       entries = ap (λ (d : List Link). sets l (3 * n) (entryWords (map (listed (read t .slots)) d))) (sym none);
     }
   where
-    same : (k : Chain) (s : State) → rechain k s (s .slots) (chainOf k s) ≡ s
+    same : (k : Chain) (s : State) → withChain k s (s .slots) (chainOf k s) ≡ s
     same ByTicks s = refl
     same ByDate s = refl
 
@@ -141,7 +141,7 @@ module _ {k : Chain} {t l : List ℕ} {limit n i : ℕ} (r : Room k t l limit n)
       (omega (arith, once-here, times-own (a .entry) (a .back))) not-there
 
   -- the entry that is written is the link's
-  entry-is : (es : List ℕ) → _≡_ {A = List ℕ} ((idBase + i) ∷ field t 4 i ∷ field t 5 i ∷ es)
+  entry-is : (es : List ℕ) → _≡_ {A = List ℕ} ((idBase + i) ∷ routineOf t i ∷ dataOf t i ∷ es)
       ((idBase + a .entry .slot) ∷ slotAt (read t .slots) (a .entry .slot) .routine ∷ slotAt (read t .slots) (a .entry .slot) .userData ∷ es)
   entry-is es =
       let x : slotFrom t i ≡ slotAt (read t .slots) (a .entry .slot) =
@@ -160,12 +160,12 @@ module _ {k : Chain} {t l : List ℕ} {limit n i : ℕ} (r : Room k t l limit n)
 
     chain-shorter : length (chainOf k (read t′)) < length (chainOf k (read t))
     chain-shorter =
-        let own = rechain-own (read t) (firedAll (a .entry ∷ []) (read t .slots)) (a .back) k in
+        let own = with-chain-own (read t) (firedAll (a .entry ∷ []) (read t .slots)) (a .back) k in
         omega (arith, ap length (ap (chainOf k) read-after ∙ own), ap length (a .whole))
 
     room-next : Room k t′ l′ limit (n + 1)
     room-next =
-        let same = ap length (e .entry) ∙ length-sets l (3 * n) ((idBase + i) ∷ field t 4 i ∷ field t 5 i ∷ []) in
+        let same = ap length (e .entry) ∙ length-sets l (3 * n) ((idBase + i) ∷ routineOf t i ∷ dataOf t i ∷ []) in
         record {
           holds = next-holds next;
           fits = omega (arith, r .fits, ap length due-next, same);
@@ -176,7 +176,7 @@ module _ {k : Chain} {t l : List ℕ} {limit n i : ℕ} (r : Room k t l limit n)
     fires-before m u v f =
         let later = due k limit (read t′) in
         let slots : read t′ .slots ≡ firedAll (a .entry ∷ []) (read t .slots) =
-        ap (λ (z : State). z .slots) read-after ∙ rechain-slots (read t) (firedAll (a .entry ∷ []) (read t .slots)) (a .back) k in
+        ap (λ (z : State). z .slots) read-after ∙ with-chain-slots (read t) (firedAll (a .entry ∷ []) (read t .slots)) (a .back) k in
         let same : fire k limit (stoppedAt t i) ≡ fire k limit (read t) =
         ap (fire k limit) stopped-is ∙ sym (fire-first k limit (read t) (a .entry) (a .back) (a .whole) low) in
         let es : map (listed (read t′ .slots)) later ≡ map (listed (read t .slots)) later =
@@ -184,9 +184,9 @@ module _ {k : Chain} {t l : List ℕ} {limit n i : ℕ} (r : Room k t l limit n)
         let three : 3 * (n + 1) ≡ suc (suc (suc (3 * n))) = omega arith in
         record {
           count = omega (arith, f .count, ap length due-next);
-          table = next-fires next f .is ∙ ap (λ (z : State). over z t) same;
+          table = next-fires next f .is ∙ ap (λ (z : State). writtenOver z t) same;
           entries = f .entries ∙ ap₂ (λ (x : List ℕ) (b : ℕ). sets x b (entryWords (map (listed (read t′ .slots)) later))) (e .entry) three
-              ∙ ap (λ (x : List Fired). sets l (3 * n) ((idBase + i) ∷ field t 4 i ∷ field t 5 i ∷ entryWords x)) es
+              ∙ ap (λ (x : List Fired). sets l (3 * n) ((idBase + i) ∷ routineOf t i ∷ dataOf t i ∷ entryWords x)) es
               ∙ ap (sets l (3 * n)) (entry-is (entryWords (map (listed (read t .slots)) later)))
               ∙ ap (λ (x : List Link). sets l (3 * n) (entryWords (map (listed (read t .slots)) x))) (sym due-next);
         }
@@ -222,7 +222,7 @@ module _ {k : Chain} {t₀ l₀ : List ℕ} {limit from : ℕ} {t l : List ℕ} 
   pub fire-front : i ≢ 0 → Front k t i
   fire-front some = front k (f .room .holds) (f .here) some
 
-  module _ (some : i ≢ 0) {w : ℕ} (is : w ≡ field t 3 i) where
+  module _ (some : i ≢ 0) {w : ℕ} (is : w ≡ waitOf t i) where
     -- the first link is not due, nor any behind it
     pub fire-later : limit < w → Fires k t₀ l₀ limit from n t l
     fire-later p =

@@ -8,20 +8,20 @@ use lib.ListN.{length, length-append}
 use Rattle.model.specs.declared.Chain.the-variants.{ByTicks}
 use Rattle.model.specs.Lists.{All}
 use Rattle.model.specs.State.{Slot, Link, slotAt, waitAt}
-use Rattle.model.specs.Words.{field, read}
+use Rattle.model.specs.Words.{read, intervalOf, waitOf, previousOf}
 use Rattle.model.proofs.WellFormed.{timesIn, Holds}
 use Rattle.model.proofs.Chains.{once}
-use Rattle.model.proofs.Spelling.{holds-parts}
+use Rattle.model.proofs.StateWords.{holds-parts}
 use Rattle.links.proofs.LinkInMiddle.{last-slot, last-wait, split, all-mid, mid-stands, mid-own, last-low}
 use Rattle.links.proofs.Positions.{position, last-of}
 
 -- slot i of the interval chain, and the slot before it
 pub record Before (t : List ℕ) (i : ℕ) : Type 0 where
   pub inside : 8 * i + 10 ≤ length t
-  pub there : 0 < field t 7 i → 0 < timesIn (read t .ticking) (field t 7 i)
-  pub less : position (field t 7 i) (read t .ticking) < position i (read t .ticking)
-  pub sum : waitAt (field t 7 i) (read t .ticking) + field t 3 i ≡ waitAt i (read t .ticking)
-  pub fits : waitAt i (read t .ticking) ≤ field t 2 i
+  pub there : 0 < previousOf t i → 0 < timesIn (read t .ticking) (previousOf t i)
+  pub less : position (previousOf t i) (read t .ticking) < position i (read t .ticking)
+  pub sum : waitAt (previousOf t i) (read t .ticking) + waitOf t i ≡ waitAt i (read t .ticking)
+  pub fits : waitAt i (read t .ticking) ≤ intervalOf t i
 
 module _ (t : List ℕ) (h : Holds t (read t)) where
   pub none-before : (i : ℕ) → i ≡ 0 → 0 ≡ waitAt i (read t .ticking)

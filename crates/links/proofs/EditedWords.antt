@@ -12,10 +12,10 @@ use borrow.Author.Tests.{eqb-true, eqb-false}
 use Rattle.model.specs.declared.Chain.{Chain}
 use Rattle.model.specs.declared.Chain.the-variants.{ByTicks, ByDate}
 use Rattle.model.specs.State.{Slot}
-use Rattle.model.specs.Words.{word, field, headWord, slotFrom}
+use Rattle.model.specs.Words.{word, field, headWord, slotFrom, kindOf, nameOf, intervalOf, waitOf, routineOf, dataOf, nextOf, previousOf}
 use Rattle.model.proofs.ListLaws.{cases}
-use Rattle.model.proofs.Each.{end, _&_, each-at}
-use Rattle.model.proofs.Spelling.{linkWord}
+use Rattle.model.proofs.EachPlace.{end, _&_, each-at}
+use Rattle.model.proofs.StateWords.{linkWord}
 use Rattle.links.specs.EditedWords.{fieldWord, followerPut, linksPut, relinked, waitWithout, waitBehind, timerPut}
 
 -- ---- where words stand
@@ -71,19 +71,19 @@ module _ (t : List ℕ) (w : ℕ) where
   wait-without-none k zero e = refl
   wait-without-none k (suc n) e = absurd (omega arith)
 
-  pub wait-without-ticks : (n : ℕ) → n ≢ 0 → waitWithout ByTicks t n w ≡ field t 3 n + w
+  pub wait-without-ticks : (n : ℕ) → n ≢ 0 → waitWithout ByTicks t n w ≡ waitOf t n + w
   wait-without-ticks zero e = absurd (e refl)
   wait-without-ticks (suc n) e = refl
 
-  pub wait-without-date : (n : ℕ) → n ≢ 0 → waitWithout ByDate t n w ≡ field t 3 n
+  pub wait-without-date : (n : ℕ) → n ≢ 0 → waitWithout ByDate t n w ≡ waitOf t n
   wait-without-date zero e = absurd (e refl)
   wait-without-date (suc n) e = refl
 
-  pub wait-behind-ticks : (n : ℕ) → n ≢ 0 → waitBehind ByTicks t n w ≡ field t 3 n - w
+  pub wait-behind-ticks : (n : ℕ) → n ≢ 0 → waitBehind ByTicks t n w ≡ waitOf t n - w
   wait-behind-ticks zero e = absurd (e refl)
   wait-behind-ticks (suc n) e = refl
 
-  pub wait-behind-date : (n : ℕ) → n ≢ 0 → waitBehind ByDate t n w ≡ field t 3 n
+  pub wait-behind-date : (n : ℕ) → n ≢ 0 → waitBehind ByDate t n w ≡ waitOf t n
   wait-behind-date zero e = absurd (e refl)
   wait-behind-date (suc n) e = refl
 
@@ -106,9 +106,9 @@ pub record Edit (k : Chain) (t u : List ℕ) (p l n q v i : ℕ) (ws : List ℕ)
   pub off : (m : ℕ) → m ≢ linkWord k p → (0 < n → m ≢ fieldWord n 7) → (0 < n → m ≢ fieldWord n 3) → ((f : ℕ) → f < 8 → m ≢ fieldWord i f)
       → word u m ≡ word t m
   pub link : word u (linkWord k p) ≡ l
-  pub previous : 0 < n → field u 7 n ≡ q
-  pub wait : 0 < n → field u 3 n ≡ v
-  pub own : (f : ℕ) → f < 8 → field u f i ≡ getD ws f 0
+  pub previous : 0 < n → previousOf u n ≡ q
+  pub wait : 0 < n → waitOf u n ≡ v
+  pub own : (f : ℕ) → f < 8 → field u i f ≡ getD ws f 0
 
 -- a store to slot i
 pub edit-set : {k : Chain} {t u : List ℕ} {p l n q v i : ℕ} {ws : List ℕ} (f z : ℕ) → f < 8 → f < length ws → Edit k t u p l n q v i ws
@@ -139,7 +139,7 @@ edit-set {k} {t} {u} {p} {l} {n} {q} {v} {i} {ws} f z f8 fw e =
 
 abbrev pub slotList : List ℕ → ℕ → List ℕ
 slotList t i =
-    field t 0 i ∷ field t 1 i ∷ field t 2 i ∷ field t 3 i ∷ field t 4 i ∷ field t 5 i ∷ field t 6 i ∷ field t 7 i ∷ []
+    kindOf t i ∷ nameOf t i ∷ intervalOf t i ∷ waitOf t i ∷ routineOf t i ∷ dataOf t i ∷ nextOf t i ∷ previousOf t i ∷ []
 
 follower-put-off : (t : List ℕ) (n q v m : ℕ) → (0 < n → m ≢ fieldWord n 7) → (0 < n → m ≢ fieldWord n 3) → word (followerPut t n q v) m ≡ word t m
 unfolding followerPut
@@ -153,14 +153,14 @@ unfolding followerPut
 length-follower-put t zero q v = refl
 length-follower-put t (suc n) q v = simp length-set
 
-follower-put-previous : (t : List ℕ) (n q v : ℕ) → 0 < n → 8 * n + 10 ≤ length t → field (followerPut t n q v) 7 n ≡ q
+follower-put-previous : (t : List ℕ) (n q v : ℕ) → 0 < n → 8 * n + 10 ≤ length t → previousOf (followerPut t n q v) n ≡ q
 unfolding followerPut
 follower-put-previous t zero q v h l = absurd (omega arith)
 follower-put-previous t (suc n) q v h l =
     getD-set-other (set t (fieldWord (suc n) 7) q) (fieldWord (suc n) 3) (fieldWord (suc n) 7) v 0 (omega arith)
     ∙ getD-set-same t (fieldWord (suc n) 7) q 0 (omega arith)
 
-follower-put-wait : (t : List ℕ) (n q v : ℕ) → 0 < n → 8 * n + 10 ≤ length t → field (followerPut t n q v) 3 n ≡ v
+follower-put-wait : (t : List ℕ) (n q v : ℕ) → 0 < n → 8 * n + 10 ≤ length t → waitOf (followerPut t n q v) n ≡ v
 unfolding followerPut
 follower-put-wait t zero q v h l = absurd (omega arith)
 follower-put-wait t (suc n) q v h l =
@@ -174,7 +174,7 @@ module _ (k : Chain) (t : List ℕ) (p l n q v i : ℕ) (low : 0 < i) (not-befor
       let same : length u ≡ length t = length-set t (linkWord k p) l in
       let off-link : (f : ℕ) → 0 < n → f < 8 → f ≢ 6 → linkWord k p ≢ fieldWord n f =
       λ f h f8 f6 r. field-off-link k p n f h f8 (λ z. absurd (f6 z)) (sym r) in
-      let kept : (f : ℕ) → f < 8 → field (followerPut u n q v) f i ≡ field t f i =
+      let kept : (f : ℕ) → f < 8 → field (followerPut u n q v) i f ≡ field t i f =
       λ f f8. follower-put-off u n q v (fieldWord i f) (λ _. omega arith) (λ _. omega arith)
       ∙ getD-set-other t (linkWord k p) (fieldWord i f) l 0 (field-off-link k p i f low f8 (λ _. not-before)) in
       record {
@@ -188,7 +188,7 @@ module _ (k : Chain) (t : List ℕ) (p l n q v i : ℕ) (low : 0 < i) (not-befor
             ∙ getD-set-same t (linkWord k p) l 0 (link-inside k p (length t) before);
         previous = λ h. follower-put-previous u n q v h (omega arith);
         wait = λ h. follower-put-wait u n q v h (omega arith);
-        own = each-at (λ f x. field (followerPut u n q v) f i ≡ x) 0 (slotList t i) (
+        own = each-at (λ f x. field (followerPut u n q v) i f ≡ x) 0 (slotList t i) (
             kept 0 (omega arith)
             & kept 1 (omega arith)
             & kept 2 (omega arith)
@@ -233,7 +233,7 @@ module _ {k : Chain} {t u : List ℕ} {p l n q v i : ℕ} {ws : List ℕ} (e : E
     userData = e .own 5 (omega arith) d;
   }
 
-  pub kept : (j f : ℕ) → 0 < j → f < 8 → j ≢ i → (f ≡ 6 → j ≢ p) → (f ≡ 3 → j ≢ n) → (f ≡ 7 → j ≢ n) → field u f j ≡ field t f j
+  pub kept : (j f : ℕ) → 0 < j → f < 8 → j ≢ i → (f ≡ 6 → j ≢ p) → (f ≡ 3 → j ≢ n) → (f ≡ 7 → j ≢ n) → field u j f ≡ field t j f
   kept j f h f8 ji a b c =
       e .off (fieldWord j f) (field-off-link k p j f h f8 a)
       (λ _ r. c (omega arith) (omega arith)) (λ _ r. b (omega arith) (omega arith)) (λ g g8. omega arith)

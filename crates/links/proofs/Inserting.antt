@@ -13,13 +13,13 @@ use Rattle.model.specs.declared.Chain.the-variants.{ByTicks, ByDate}
 use Rattle.model.specs.Lists.{place}
 use Rattle.model.specs.declared.Mode.{Mode}
 use Rattle.model.specs.Kinds.{chainFor, waitingKind}
-use Rattle.model.specs.State.{Slot, Link, State, chainOf, rechain, slotAt, putAt}
-use Rattle.model.specs.Directives.{stopped, joined, intervalIn, waitingAs, started}
-use Rattle.model.specs.Words.{first, difference, over, field, read}
+use Rattle.model.specs.State.{Slot, Link, State, chainOf, withChain, slotAt, putAt}
+use Rattle.model.specs.Directives.{stopped, inserted, intervalIn, waitingAs, started}
+use Rattle.model.specs.Words.{first, difference, writtenOver, read, nameOf, waitOf}
 use Rattle.model.proofs.ListLaws.{cases, count-append}
 use Rattle.model.proofs.WellFormed.{timesIn, Holds}
 use Rattle.model.proofs.Chains.{without-none, once, once-apart, met-in-range}
-use Rattle.model.proofs.Spelling.{holds-parts, Linked}
+use Rattle.model.proofs.StateWords.{holds-parts, Linked}
 use Rattle.model.proofs.Steps.{chained-started}
 use Rattle.links.specs.EditedWords.{relinked, waitBehind, insertedWords, Insertable, timerPut}
 use Rattle.links.specs.Places.{upTo, beyond, lastSlot, lastWait, At, IdleInTable}
@@ -50,14 +50,14 @@ first-beyond n (x ∷ xs) y ys e =
     (λ f. let z : x ∷ xs ≡ y ∷ ys = rw f at e in let w : x .wait ≡ y .wait = cc in omega (arith, leb-false (x .wait) n f))
 
 -- a wait of the slot behind, after one came in front of it
-wait-behind-is : (k : Chain) (t : List ℕ) (n w a b c : ℕ) → n ≢ 0 → field t 3 n ≡ difference k a c → w ≡ difference k a b → a ≤ b → b ≤ c
+wait-behind-is : (k : Chain) (t : List ℕ) (n w a b c : ℕ) → n ≢ 0 → waitOf t n ≡ difference k a c → w ≡ difference k a b → a ≤ b → b ≤ c
     → waitBehind k t n w ≡ difference k b c
 wait-behind-is ByTicks t n w a b c h e f p q = omega (arith, wait-behind-ticks t w n h)
 wait-behind-is ByDate t n w a b c h e f p q = wait-behind-date t w n h ∙ e
 
 -- a state whose slot i is in no chain
 started-as : (k : Chain) (s : State) (i n : ℕ) (x : Slot) (c : List Link) → ((m : Chain) → timesIn (chainOf m s) i ≡ 0)
-    → place (λ w. w .wait) (record { slot = i; wait = n }) (chainOf k s) ≡ c → rechain k s (putAt (s .slots) i x) c ≡ joined k (stopped s i x) i n
+    → place (λ w. w .wait) (record { slot = i; wait = n }) (chainOf k s) ≡ c → withChain k s (putAt (s .slots) i x) c ≡ inserted k (stopped s i x) i n
 started-as ByTicks s i n x c none e = λ d. record {
   slots = putAt (s .slots) i x;
   clock = s .clock;
@@ -103,7 +103,7 @@ module _ (k : Chain) (t : List ℕ) (s : State) (h : Holds t s) (xs : List Link)
       (λ j m. met-in-range s (h .chained) k j (omega (arith, m, times-whole j, count-append (λ w. eqb (w .slot) j) xs ys)) .0)
       (subst (Led k t 0 0) whole (holds-led t s h k))
 
-  behind-wait : (y : Link) (zs : List Link) → ys ≡ y ∷ zs → field t 3 (y .slot) ≡ difference k (lastWait 0 xs) (y .wait)
+  behind-wait : (y : Link) (zs : List Link) → ys ≡ y ∷ zs → waitOf t (y .slot) ≡ difference k (lastWait 0 xs) (y .wait)
   behind-wait y zs q = subst (Linked k t (lastSlot 0 xs) (lastWait 0 xs)) q (rest .linked) .0 .wait
 
   module _ (w : ℕ) (w-is : w ≡ difference k (lastWait 0 xs) (e .wait)) where
@@ -122,23 +122,23 @@ module _ (k : Chain) (t : List ℕ) (s : State) (h : Holds t s) (xs : List Link)
       fits = λ c p. rw (rest .link) (room c ys refl (omega (arith, p, rest .link)));
     }
       where
-        room : k ≡ ByTicks → (zs : List Link) → ys ≡ zs → 0 < first ys → w ≤ field t 3 (first ys)
+        room : k ≡ ByTicks → (zs : List Link) → ys ≡ zs → 0 < first ys → w ≤ waitOf t (first ys)
         room c [] q p = absurd (omega (arith, p, ap first q))
         room c (y ∷ zs) q p =
-            let is : field t 3 (first ys) ≡ difference k (lastWait 0 xs) (y .wait) = ap (λ (c : List Link). field t 3 (first c)) q ∙ behind-wait y zs q in
+            let is : waitOf t (first ys) ≡ difference k (lastWait 0 xs) (y .wait) = ap (λ (c : List Link). waitOf t (first c)) q ∙ behind-wait y zs q in
             let less = past y zs q in
             omega (arith, ap (λ (m : Chain). difference m (lastWait 0 xs) (y .wait)) c, ap (λ (m : Chain). difference m (lastWait 0 xs) (e .wait)) c)
 
     start-mid : (m : Mode) → k ≡ chainFor m → (r u : ℕ) → place (λ z. z .wait) e (chainOf k s) ≡ xs ++ e ∷ ys
         → timerPut (insertedWords k t (lastSlot 0 xs) (e .slot) w) (e .slot) (waitingKind m) (intervalIn (chainFor m) (e .wait)) r u
-        ≡ over (started m s (e .slot) (e .wait) r u) t
+        ≡ writtenOver (started m s (e .slot) (e .wait) r u) t
     start-mid m in-k r u goes =
         let interval = intervalIn (chainFor m) (e .wait) in
         let i = e .slot in
         let p = lastSlot 0 xs in
         let n = first ys in
         let x = slotAt (s .slots) i in
-        let new : record { kind = waitingKind m; name = field t 1 i; interval = interval; routine = r; userData = u } ≡ waitingAs m x (e .wait) r u =
+        let new : record { kind = waitingKind m; name = nameOf t i; interval = interval; routine = r; userData = u } ≡ waitingAs m x (e .wait) r u =
         ap (λ (z : Slot). waitingAs m z (e .wait) r u) (holds-parts t s h .slots i low high) in
         let edit = timer-put-edit (waitingKind m) interval r u refl
         (relinked-edit k t p i n i (waitBehind k t n w) i low (own-not-last around) (own-not-first around)
@@ -156,9 +156,9 @@ module _ (k : Chain) (t : List ℕ) (s : State) (h : Holds t s) (xs : List Link)
         (λ j. times-but j xs e ys)
         (λ z. absurd (omega (arith, z, times-at xs e ys)))
         (started m s i (e .wait) r u)
-        (ap (λ (z : Slot). rechain k s (putAt (s .slots) i z) (xs ++ e ∷ ys)) new
+        (ap (λ (z : Slot). withChain k s (putAt (s .slots) i z) (xs ++ e ∷ ys)) new
         ∙ started-as k s i (e .wait) (waitingAs m x (e .wait) r u) (xs ++ e ∷ ys) none goes
-        ∙ ap (λ (j : Chain). joined j (stopped s i (waitingAs m x (e .wait) r u)) i (e .wait)) in-k)
+        ∙ ap (λ (j : Chain). inserted j (stopped s i (waitingAs m x (e .wait) r u)) i (e .wait)) in-k)
         (chained-started m s (h .chained) i (e .wait) r u low high)
 
 -- ---- a table
@@ -173,7 +173,7 @@ module _ (k : Chain) (t : List ℕ) (i : ℕ) (h : IdleInTable t i) (n p w : ℕ
 
   -- the words after the steps of a start
   pub start-words : (m : Mode) → k ≡ chainFor m → (r u : ℕ) {kind interval : ℕ} (t₁ : List ℕ) {t₂ : List ℕ} → t₁ ≡ insertedWords k t p i w → kind ≡ waitingKind m
-      → interval ≡ intervalIn k n → t₂ ≡ timerPut t₁ i kind interval r u → t₂ ≡ over (started m (read t) i n r u) t
+      → interval ≡ intervalIn k n → t₂ ≡ timerPut t₁ i kind interval r u → t₂ ≡ writtenOver (started m (read t) i n r u) t
   start-words m in-k r u t₁ put is for timer =
       let c = chainOf k (read t) in
       let e : Link = record { slot = i; wait = n } in

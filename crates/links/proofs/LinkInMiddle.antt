@@ -15,7 +15,7 @@ use Rattle.model.specs.Words.{first}
 use Rattle.model.proofs.ListLaws.{cases, count-append}
 use Rattle.model.proofs.WellFormed.{timesIn, Holds}
 use Rattle.model.proofs.Chains.{without-none, once, once-apart, met-in-range}
-use Rattle.model.proofs.Spelling.{Stands, Linked, holds-linked}
+use Rattle.model.proofs.StateWords.{Stands, Linked, holds-linked}
 use Rattle.links.specs.Places.{lastSlot, lastWait}
 
 -- ---- the last link of the front

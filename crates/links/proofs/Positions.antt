@@ -11,7 +11,7 @@ use Rattle.model.specs.State.{Link, State, chainOf, waitAt}
 use Rattle.model.proofs.ListLaws.{cases}
 use Rattle.model.proofs.WellFormed.{timesIn, Chained}
 use Rattle.model.proofs.Chains.{times-own, once, met-in-range}
-use Rattle.model.proofs.Spelling.{absent}
+use Rattle.model.proofs.StateWords.{absent}
 use Rattle.links.specs.Places.{lastSlot, lastWait}
 use Rattle.links.proofs.LinkInMiddle.{times-more}
 

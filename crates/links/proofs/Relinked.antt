@@ -13,16 +13,16 @@ use borrow.Author.Tests.{ltb-true, ltb-false, eqb-true, eqb-false, eq-eqb, ne-eq
 use Rattle.model.specs.declared.Chain.{Chain}
 use Rattle.model.specs.declared.Chain.the-variants.{ByTicks, ByDate}
 use Rattle.model.specs.Kinds.{sameChain}
-use Rattle.model.specs.State.{Link, Clock, State, chainOf, rechain, putAt}
-use Rattle.model.specs.Words.{first, difference, write, over, word, field, headWord, slotFrom}
+use Rattle.model.specs.State.{Link, Clock, State, chainOf, withChain, putAt}
+use Rattle.model.specs.Words.{first, difference, write, writtenOver, word, field, headWord, slotFrom, ticksInto}
 use Rattle.model.proofs.ListLaws.{cases, clash, count-append}
-use Rattle.model.proofs.Each.{end, _&_, each-at}
+use Rattle.model.proofs.EachPlace.{end, _&_, each-at}
 use Rattle.model.proofs.Slots.{at-same, at-other, length-put}
 use Rattle.model.proofs.WellFormed.{timesIn, Chained, Holds}
 use Rattle.model.proofs.Chains.{times-own, met-in-range}
 use Rattle.model.proofs.KindLaws.{each-chain}
-use Rattle.model.proofs.Spelling.{headWords, linkWord, link-field, Lay, Loose, Parts, holds-parts, parts-holds, Linked, linked-lay, holds-linked}
-use Rattle.model.proofs.Steps.{rechain-slots, rechain-clock, rechain-own, rechain-apart, rechained}
+use Rattle.model.proofs.StateWords.{headWords, linkWord, link-field, Lay, Loose, Parts, holds-parts, parts-holds, Linked, linked-lay, holds-linked}
+use Rattle.model.proofs.Steps.{with-chain-slots, with-chain-clock, with-chain-own, with-chain-apart, with-chain-each}
 use Rattle.links.specs.Places.{lastSlot, lastWait}
 use Rattle.links.proofs.LinkInMiddle.{times-more, times-mid, times-at}
 use Rattle.links.proofs.EditedWords.{head-low, Edit, slotOf, own-slot, kept, kept-link, kept-head, kept-rest}
@@ -119,7 +119,7 @@ module _ {k : Chain} {t u : List ℕ} {p l n q v i : ℕ} {ws : List ℕ} (edit 
   unmoved m o b [] a h = tt
   unmoved m o b (w ∷ ws) a h =
       let own = a (w .slot) (omega (arith, times-own w ws)) in
-      let at : (f : ℕ) → f < 8 → field u f (w .slot) ≡ field t f (w .slot) =
+      let at : (f : ℕ) → f < 8 → field u (w .slot) f ≡ field t (w .slot) f =
       λ f f8. kept edit (w .slot) f (own .0) f8 (own .1) (λ _. own .2) (λ _. own .3) (λ _. own .3) in (
         record { next = at 6 (omega arith) ∙ h .0 .next; previous = at 7 (omega arith) ∙ h .0 .previous; wait = at 3 (omega arith) ∙ h .0 .wait },
         unmoved m (w .slot) (w .wait) ws (λ j m. a j (omega (arith, m, times-more w ws j))) (h .1),
@@ -131,7 +131,7 @@ module _ {k : Chain} {t u : List ℕ} {p l n q v i : ℕ} {ws : List ℕ} (edit 
   front [] c c′ o b e oi out one a h g = subst (λ (m : ℕ). Led k u m b c′) (sym e) g
   front (x ∷ xs) c c′ o b e oi out one a h g =
       let own = a (x .slot) (omega (arith, times-own x xs)) in
-      let at : (f : ℕ) → f < 8 → f ≢ 6 → field u f (x .slot) ≡ field t f (x .slot) =
+      let at : (f : ℕ) → f < 8 → f ≢ 6 → field u (x .slot) f ≡ field t (x .slot) f =
       λ f f8 f6. kept edit (x .slot) f (own .0) f8 (own .1) (λ z. absurd (f6 z)) (λ _. own .2) (λ _. own .2) in
       let rest = front xs c c′ (x .slot) (x .wait) e (own .1) (omega (arith, one (x .slot), times-own x xs)) (λ j. omega (arith, one j, times-more x xs j))
       (λ j m. a j (omega (arith, m, times-more x xs j)))
@@ -233,14 +233,14 @@ module _ {k : Chain} {t u : List ℕ} {s : State} {xs : List Link} {e : Link} {y
   loose-kept : (j : ℕ) → 0 < j → j ≢ e .slot → timesIn (xs ++ ys) j ≡ 0 → Loose t j → Loose u j
   loose-kept j p ji z g =
       let none : timesIn xs j + timesIn ys j ≡ 0 = omega (arith, z, count-append (λ w. eqb (w .slot) j) xs ys) in
-      let at : (f : ℕ) → f < 8 → field u f j ≡ field t f j =
+      let at : (f : ℕ) → f < 8 → field u j f ≡ field t j f =
       λ f f8. kept edit j f p f8 ji (λ _ r. omega (arith, last-met xs (omega arith), ap (timesIn xs) r))
       (λ _ r. omega (arith, first-met ys (omega arith), ap (timesIn ys) r)) (λ _ r. omega (arith, first-met ys (omega arith), ap (timesIn ys) r)) in
       record { wait = at 3 (omega arith) ∙ g .wait; next = at 6 (omega arith) ∙ g .next; previous = at 7 (omega arith) ∙ g .previous }
 
   slot-kept : (j : ℕ) → 0 < j → j ≢ e .slot → slotFrom u j ≡ slotFrom t j
   slot-kept j p ji =
-      let at : (f : ℕ) → f < 8 → f ≢ 6 → f ≢ 3 → f ≢ 7 → field u f j ≡ field t f j =
+      let at : (f : ℕ) → f < 8 → f ≢ 6 → f ≢ 3 → f ≢ 7 → field u j f ≡ field t j f =
       λ f f8 f6 f3 f7. kept edit j f p f8 ji (λ z. absurd (f6 z)) (λ z. absurd (f3 z)) (λ z. absurd (f7 z)) in
       λ d. record {
         kind = at 0 (omega arith) (omega arith) (omega arith) (omega arith) d;
@@ -252,28 +252,28 @@ module _ {k : Chain} {t u : List ℕ} {s : State} {xs : List Link} {e : Link} {y
 
   module _ (c : List Link) (led : Led k u 0 0 c) (but : (j : ℕ) → j ≢ e .slot → timesIn c j ≡ timesIn (xs ++ ys) j)
       (out : timesIn c (e .slot) ≡ 0 → Loose u (e .slot)) where
-    after : Parts u (rechain k s (putAt (s .slots) (e .slot) (slotOf ws)) c)
+    after : Parts u (withChain k s (putAt (s .slots) (e .slot) (slotOf ws)) c)
     after =
         let slots = putAt (s .slots) (e .slot) (slotOf ws) in
         let before = holds-parts t s h in
-        let size : length (rechain k s slots c .slots) ≡ length (s .slots) =
-        ap length (rechain-slots s slots c k) ∙ length-put (s .slots) (e .slot) (slotOf ws) in
+        let size : length (withChain k s slots c .slots) ≡ length (s .slots) =
+        ap length (with-chain-slots s slots c k) ∙ length-put (s .slots) (e .slot) (slotOf ws) in
         record {
           heads = λ m p f g. kept-head edit m p (not-head k m f g) ∙ before .heads m p f g
-              ∙ same-heads s (rechain k s slots c) (sym size) (sym (rechain-clock s slots c k)) m p f g;
-          lay = rechained s slots c (λ m l. Lay m u l) k (linked-lay k u c (led .link) (led .linked)) other-lay;
+              ∙ same-heads s (withChain k s slots c) (sym size) (sym (with-chain-clock s slots c k)) m p f g;
+          lay = with-chain-each s slots c (λ m l. Lay m u l) k (linked-lay k u c (led .link) (led .linked)) other-lay;
           loose = λ j p b z. cases (eqb j (e .slot))
               (λ f.
               let is = eqb-true j (e .slot) f in
-              rw is (out (ap (timesIn c) (sym is) ∙ ap (λ (d : List Link). timesIn d j) (sym (rechain-own s slots c k)) ∙ z k)))
+              rw is (out (ap (timesIn c) (sym is) ∙ ap (λ (d : List Link). timesIn d j) (sym (with-chain-own s slots c k)) ∙ z k)))
               (λ f.
               let ji = eqb-false j (e .slot) f in
-              let zk : timesIn c j ≡ 0 = ap (λ (d : List Link). timesIn d j) (sym (rechain-own s slots c k)) ∙ z k in
+              let zk : timesIn c j ≡ 0 = ap (λ (d : List Link). timesIn d j) (sym (with-chain-own s slots c k)) ∙ z k in
               loose-kept j p ji (sym (but j ji) ∙ zk)
               (before .loose j p (omega arith) (each-chain (λ m. timesIn (chainOf m s) j ≡ 0) k
               (a .same j ji ∙ sym (but j ji) ∙ zk)
-              (λ m away. ap (λ (d : List Link). timesIn d j) (sym (rechain-apart s slots c k m away)) ∙ z m))));
-          slots = λ j p b. rw (rechain-slots s slots c k) (cases (eqb j (e .slot))
+              (λ m away. ap (λ (d : List Link). timesIn d j) (sym (with-chain-apart s slots c k m away)) ∙ z m))));
+          slots = λ j p b. rw (with-chain-slots s slots c k) (cases (eqb j (e .slot))
               (λ f.
               let is = eqb-true j (e .slot) f in
               rw is (own-slot edit ∙ sym (at-same (s .slots) (e .slot) (slotOf ws) (own-within a .0) (own-within a .1))))
@@ -282,11 +282,11 @@ module _ {k : Chain} {t u : List ℕ} {s : State} {xs : List Link} {e : Link} {y
               slot-kept j p ji ∙ before .slots j p (omega arith) ∙ sym (at-other (s .slots) (e .slot) j (slotOf ws) ji)));
         }
 
-    pub edited : (s′ : State) → rechain k s (putAt (s .slots) (e .slot) (slotOf ws)) c ≡ s′ → Chained s′ → u ≡ over s′ t
+    pub edited : (s′ : State) → withChain k s (putAt (s .slots) (e .slot) (slotOf ws)) c ≡ s′ → Chained s′ → u ≡ writtenOver s′ t
     edited s′ is ok =
         let slots = putAt (s .slots) (e .slot) (slotOf ws) in
         let size : length (s′ .slots) ≡ length (s .slots) =
-        ap (λ (x : State). length (x .slots)) (sym is) ∙ ap length (rechain-slots s slots c k) ∙ length-put (s .slots) (e .slot) (slotOf ws) in
+        ap (λ (x : State). length (x .slots)) (sym is) ∙ ap length (with-chain-slots s slots c k) ∙ length-put (s .slots) (e .slot) (slotOf ws) in
         let held = parts-holds u s′ ok (subst (Parts u) is after) (omega (arith, h .long, edit .long)) in
         sym (held .is) ∙ ap (write s′) (kept-rest edit (length (s′ .slots))
         (omega (arith, last-high a)) (omega (arith, first-high a)) (omega (arith, own-within a .1)))

@@ -8,12 +8,12 @@ use lib.ListN.{length}
 use Rattle.model.specs.declared.Mode.{Mode}
 use Rattle.model.specs.Kinds.{chainFor, waitsIn}
 use Rattle.model.specs.State.{Slot, Link, State, slotAt, without}
-use Rattle.model.specs.Directives.{stopped, idled, joined, waitingAs, started}
-use Rattle.model.specs.Words.{over, field, read}
+use Rattle.model.specs.Directives.{stopped, idled, inserted, waitingAs, started}
+use Rattle.model.specs.Words.{writtenOver, read, kindOf}
 use Rattle.model.proofs.Slots.{at-same, put-put}
 use Rattle.model.proofs.Chains.{times-without, without-none}
 use Rattle.model.proofs.KindLaws.{stopped-not-in}
-use Rattle.model.proofs.Spelling.{holds-parts}
+use Rattle.model.proofs.StateWords.{holds-parts}
 use Rattle.model.proofs.ReadBack.{count-is, over-over}
 use Rattle.model.proofs.Steps.{length-stopped, chained-stopped, length-started}
 use Rattle.links.specs.Places.{InTable, IdleInTable}
@@ -34,7 +34,7 @@ abbrev pub stoppedAt : List ℕ → ℕ → State
 stoppedAt t i = stopped (read t) i (idled (slotAt (read t .slots) i))
 
 -- u is the table after the stop
-module _ (t : List ℕ) (i : ℕ) (h : InTable t i) (u : List ℕ) (is : u ≡ over (stoppedAt t i) t) where
+module _ (t : List ℕ) (i : ℕ) (h : InTable t i) (u : List ℕ) (is : u ≡ writtenOver (stoppedAt t i) t) where
   pub stop-next : Next t (stoppedAt t i) u
   stop-next =
       let x = slotAt (read t .slots) i in
@@ -56,17 +56,17 @@ module _ (t : List ℕ) (i : ℕ) (h : InTable t i) (u : List ℕ) (is : u ≡ o
       high = omega (arith, count-is u (stoppedAt t i) (stop-next .holds), size-now, in-slots t i h);
     };
     idle = λ k.
-        let kind : field u 0 i ≡ slotAt (stoppedAt t i .slots) i .kind =
+        let kind : kindOf u i ≡ slotAt (stoppedAt t i .slots) i .kind =
         ap (λ (x : Slot). x .kind) (holds-parts u (stoppedAt t i) (stop-next .holds) .slots i (h .low) (omega (arith, size-now, in-slots t i h))) in
         ap (waitsIn k) (kind ∙ ap (λ (x : Slot). x .kind) slot-now) ∙ stopped-not-in k (slotAt (read t .slots) i .kind);
   }
 
-  pub restarted : (m : Mode) (n r d : ℕ) (v : List ℕ) → v ≡ over (started m (read u) i n r d) u → v ≡ over (started m (read t) i n r d) t
+  pub restarted : (m : Mode) (n r d : ℕ) (v : List ℕ) → v ≡ writtenOver (started m (read u) i n r d) u → v ≡ writtenOver (started m (read t) i n r d) t
   restarted m n r d v e =
       let s = stoppedAt t i in
       let x = slotAt (read t .slots) i in
-      e ∙ ap₂ (λ (z : State) (w : List ℕ). over (started m z i n r d) w) (next-read stop-next) is
+      e ∙ ap₂ (λ (z : State) (w : List ℕ). writtenOver (started m z i n r d) w) (next-read stop-next) is
       ∙ over-over s (started m s i n r d) t (length-started m s i n r d)
-      ∙ ap (λ (z : State). over (joined (chainFor m) z i n) t)
+      ∙ ap (λ (z : State). writtenOver (inserted (chainFor m) z i n) t)
       (stopped-twice (read t) i (idled x) (waitingAs m (slotAt (s .slots) i) n r d)
       ∙ ap (λ (z : Slot). stopped (read t) i (waitingAs m z n r d)) slot-now)

@@ -7,8 +7,8 @@ use mathlib.Core.List.{List, [], _∷_, _++_}
 use lib.ListN.{length, set, drop, length-set}
 use Rattle.model.specs.State.{Slot, Clock, State}
 use Rattle.model.specs.Directives.{stored}
-use Rattle.model.specs.Words.{slotWords, allSlots, over, read}
-use Rattle.model.proofs.Spelling.{headWords}
+use Rattle.model.specs.Words.{slotWords, allSlots, writtenOver, read}
+use Rattle.model.proofs.StateWords.{headWords}
 use Rattle.model.proofs.ReadBack.{slots-length}
 use Rattle.links.specs.EditedWords.{fieldWord, timerPut}
 use Rattle.links.specs.Places.{InTable}
@@ -35,7 +35,7 @@ put-slot s b (suc j) x (y ∷ ys) rest p =
     at f = omega arith
 
 pub store-words : (t : List ℕ) (i : ℕ) (x : Slot) → InTable t i
-    → timerPut (set t (fieldWord i 1) (x .name)) i (x .kind) (x .interval) (x .routine) (x .userData) ≡ over (stored (read t) i x) t
+    → timerPut (set t (fieldWord i 1) (x .name)) i (x .kind) (x .interval) (x .routine) (x .userData) ≡ writtenOver (stored (read t) i x) t
 unfolding timerPut
 store-words t zero x h = absurd (omega (arith, h .low))
 store-words t (suc j) x h =

@@ -11,10 +11,10 @@ use Rattle.model.specs.declared.Chain.{Chain}
 use Rattle.model.specs.declared.Chain.the-variants.{ByTicks, ByDate}
 use Rattle.model.specs.Lists.{All}
 use Rattle.model.specs.State.{Link, chainOf}
-use Rattle.model.specs.Words.{first, difference, word, field, read}
+use Rattle.model.specs.Words.{first, difference, word, read, waitOf, nextOf}
 use Rattle.model.proofs.ListLaws.{all-append}
 use Rattle.model.proofs.WellFormed.{Holds}
-use Rattle.model.proofs.Spelling.{linkWord, Stands, holds-parts}
+use Rattle.model.proofs.StateWords.{linkWord, Stands, holds-parts}
 use Rattle.links.specs.Places.{At, upTo, lastSlot, lastWait}
 use Rattle.links.proofs.LinkInMiddle.{last-slot, last-wait, mid-stands, mid-own, last-low}
 use Rattle.links.proofs.Positions.{position, last-of}
@@ -115,8 +115,8 @@ module _ {k : Chain} {t : List ℕ} {n p left i : ℕ} (a : Walked k t n p left 
     stands : Stands k t (lastSlot 0 (a .front)) (lastWait 0 (a .front)) (here .entry) (first (here .behind))
     stands = mid-stands k t (read t) (a .holds) (a .front) (here .entry) (here .behind) (here .whole)
 
-    wait-here : field t 3 i ≡ difference k (lastWait 0 (a .front)) (here .entry .wait)
-    wait-here = ap (field t 3) (here .slot) ∙ stands .wait
+    wait-here : waitOf t i ≡ difference k (lastWait 0 (a .front)) (here .entry .wait)
+    wait-here = ap (waitOf t) (here .slot) ∙ stands .wait
 
     low : lastWait 0 (a .front) ≤ here .entry .wait
     low = last-low k t (read t) (a .holds) (a .front) (here .entry) (here .behind) (here .whole)
@@ -124,13 +124,13 @@ module _ {k : Chain} {t : List ℕ} {n p left i : ℕ} (a : Walked k t n p left 
     high : lastWait 0 (a .front) ≤ n
     high = due-last 0 n (a .front) zero-le (a .due)
 
-    pub walk-stop : left < field t 3 i → At k (read t) n p left
+    pub walk-stop : left < waitOf t i → At k (read t) n p left
     walk-stop l =
         let late : n < here .entry .wait = differ-less k (lastWait 0 (a .front)) (here .entry .wait) n low high (omega (arith, wait-here, a .rest)) in
         found (ap (upTo n) (here .whole) ∙ due-up n (a .front) (here .entry ∷ here .behind) (a .due)
         ∙ rw (lt-leb (here .entry .wait) n late) (append-nil (a .front)))
 
-    pub walk-on : field t 3 i ≤ left → Walked k t n i (difference k (field t 3 i) left) (field t 6 i)
+    pub walk-on : waitOf t i ≤ left → Walked k t n i (difference k (waitOf t i) left) (nextOf t i)
     walk-on l =
         let due : here .entry .wait ≤ n = differ-more k (lastWait 0 (a .front)) (here .entry .wait) n low high (omega (arith, wait-here, a .rest)) in
         record {
@@ -140,18 +140,18 @@ module _ {k : Chain} {t : List ℕ} {n p left i : ℕ} (a : Walked k t n p left 
           whole = here .whole ∙ sym (append-assoc (a .front) (here .entry ∷ []) (here .behind));
           due = all-append (λ w. w .wait ≤ n) (a .front) (here .entry ∷ []) (a .due) (due, tt);
           before = here .slot ∙ sym (last-slot 0 (a .front) (here .entry));
-          next = ap (field t 6) (here .slot) ∙ stands .next;
+          next = ap (nextOf t) (here .slot) ∙ stands .next;
           rest = ap₂ (difference k) wait-here (a .rest) ∙ differ-on k (lastWait 0 (a .front)) (here .entry .wait) n low due
               ∙ ap (λ (b : ℕ). difference k b n) (sym (last-wait 0 (a .front) (here .entry)));
         }
 
-    pub walk-falls : field t 3 i ≤ left → ahead k t i (difference k (field t 3 i) left) < ahead k t p left
+    pub walk-falls : waitOf t i ≤ left → ahead k t i (difference k (waitOf t i) left) < ahead k t p left
     unfolding walk-on
     walk-falls l =
         let one-more : position i (chainOf k (read t)) ≡ length (a .front ++ (here .entry ∷ [])) = passed (walk-on l) in
         omega (
           arith,
-          differ-low k (field t 3 i) left,
+          differ-low k (waitOf t i) left,
           passed a,
           ap length (here .whole),
           length-append (a .front) (here .entry ∷ here .behind),

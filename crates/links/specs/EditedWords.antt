@@ -6,8 +6,8 @@ use mathlib.Core.List.{List}
 use lib.ListN.{length, set}
 use Rattle.model.specs.declared.Chain.{Chain}
 use Rattle.model.specs.declared.Chain.the-variants.{ByTicks, ByDate}
-use Rattle.model.specs.Words.{word, field}
-use Rattle.model.proofs.Spelling.{linkWord}
+use Rattle.model.specs.Words.{word, waitOf, nextOf, previousOf}
+use Rattle.model.proofs.StateWords.{linkWord}
 
 -- where word f of slot i stands
 abbrev pub fieldWord : ℕ → ℕ → ℕ
@@ -29,18 +29,18 @@ relinked k t p l n q v i w x y = linksPut (followerPut (set t (linkWord k p) l) 
 -- the wait of slot n after the slot before it, of wait w, left the chain; and after one of wait w came in front of it
 abbrev pub waitWithout : Chain → List ℕ → ℕ → ℕ → ℕ
 waitWithout k t zero w = 0
-waitWithout ByTicks t (suc n) w = field t 3 (suc n) + w
-waitWithout ByDate t (suc n) w = field t 3 (suc n)
+waitWithout ByTicks t (suc n) w = waitOf t (suc n) + w
+waitWithout ByDate t (suc n) w = waitOf t (suc n)
 
 abbrev pub waitBehind : Chain → List ℕ → ℕ → ℕ → ℕ
 waitBehind k t zero w = 0
-waitBehind ByTicks t (suc n) w = field t 3 (suc n) - w
-waitBehind ByDate t (suc n) w = field t 3 (suc n)
+waitBehind ByTicks t (suc n) w = waitOf t (suc n) - w
+waitBehind ByDate t (suc n) w = waitOf t (suc n)
 
 -- slot i is extracted from its chain
 abbrev pub extractedWords : Chain → List ℕ → ℕ → List ℕ
 extractedWords k t i =
-    relinked k t (field t 7 i) (field t 6 i) (field t 6 i) (field t 7 i) (waitWithout k t (field t 6 i) (field t 3 i)) i 0 0 0
+    relinked k t (previousOf t i) (nextOf t i) (nextOf t i) (previousOf t i) (waitWithout k t (nextOf t i) (waitOf t i)) i 0 0 0
 
 -- slot i is inserted behind slot p, with wait w
 abbrev pub insertedWords : Chain → List ℕ → ℕ → ℕ → ℕ → List ℕ
@@ -49,16 +49,16 @@ insertedWords k t p i w = let n = word t (linkWord k p) in relinked k t p i n i 
 -- slot i can be extracted from its chain
 pub record Extractable (k : Chain) (t : List ℕ) (i : ℕ) : Type 0 where
   pub here : 8 * i + 10 ≤ length t
-  pub behind : 8 * field t 6 i + 10 ≤ length t
-  pub before : 8 * field t 7 i + 10 ≤ length t
-  pub fits : waitWithout k t (field t 6 i) (field t 3 i) < 4294967296
+  pub behind : 8 * nextOf t i + 10 ≤ length t
+  pub before : 8 * previousOf t i + 10 ≤ length t
+  pub fits : waitWithout k t (nextOf t i) (waitOf t i) < 4294967296
 
 -- slot i can be inserted behind slot p with wait w
 pub record Insertable (k : Chain) (t : List ℕ) (p i w : ℕ) : Type 0 where
   pub here : 8 * i + 10 ≤ length t
   pub before : 8 * p + 10 ≤ length t
   pub behind : 8 * word t (linkWord k p) + 10 ≤ length t
-  pub fits : k ≡ ByTicks → 0 < word t (linkWord k p) → w ≤ field t 3 (word t (linkWord k p))
+  pub fits : k ≡ ByTicks → 0 < word t (linkWord k p) → w ≤ waitOf t (word t (linkWord k p))
 
 -- kind, interval, routine and user data of slot i
 unfoldable pub timerPut : List ℕ → ℕ → ℕ → ℕ → ℕ → ℕ → List ℕ

@@ -7,9 +7,9 @@ ghost use lib.ListN.{length, set};
 ghost use Rattle.model.specs.Kinds.{chainFor, waitingKind};
 ghost use Rattle.model.specs.State.{slotAt, waitAt};
 ghost use Rattle.model.specs.Directives.{stored, stopped, idled, intervalIn, started};
-ghost use Rattle.model.specs.Words.{word, field, headWord, difference, read, over};
+ghost use Rattle.model.specs.Words.{word, headWord, difference, read, writtenOver, waitOf};
 ghost use Rattle.model.proofs.WellFormed.{Holds, timesIn};
-ghost use Rattle.model.proofs.Spelling.{linkWord};
+ghost use Rattle.model.proofs.StateWords.{linkWord};
 ghost use Rattle.links.specs.EditedWords.{followerPut, linksPut, waitWithout, waitBehind, extractedWords, insertedWords, Extractable, Insertable, timerPut};
 ghost use Rattle.links.specs.Places.{At, InTable, IdleInTable};
 use model::Chain;
@@ -135,7 +135,7 @@ fn wait_without(t: &[u32], chain: Chain, n: u32, w: u32) -> u32
 
 // The wait of slot n, if there is one, after one of wait w came in front of it.
 fn wait_behind(t: &[u32], chain: Chain, n: u32, w: u32) -> u32
-    requires { ⌜ (8 * n + 10 ≤ length (now t)) × (chain ≡ Chain.ByTicks → 0 < n → w ≤ field (now t) 3 n) ⌝ }
+    requires { ⌜ (8 * n + 10 ≤ length (now t)) × (chain ≡ Chain.ByTicks → 0 < n → w ≤ waitOf (now t) n) ⌝ }
     ensures { λ r. ⌜ r ≡ waitBehind chain (now (t .entry)) n w ⌝ }
 {
     if n == 0 {
@@ -177,7 +177,7 @@ fn insert(t: &mut [u32], chain: Chain, p: u32, i: u32, w: u32)
 // A waiting timer becomes idle of its own kind; one that does not wait stays as it is.
 pub fn stop(t: &mut [u32], i: u32)
     requires { ⌜ InTable (now t) i ⌝ }
-    ensures { λ _. ⌜ now (t .exit) ≡ over (stopped (read (now (t .entry))) i (idled (slotAt (read (now (t .entry)) .slots) i))) (now (t .entry)) ⌝ }
+    ensures { λ _. ⌜ now (t .exit) ≡ writtenOver (stopped (read (now (t .entry))) i (idled (slotAt (read (now (t .entry)) .slots) i))) (now (t .entry)) ⌝ }
 {
     let kind = get(t, i, KIND);
     if kind == WAITING_TICKS {
@@ -250,7 +250,7 @@ fn put_timer(t: &mut [u32], i: u32, kind: u32, interval: u32, routine: u32, user
 // A timer that does not wait starts to wait, behind every timer due at the same tick or date.
 fn start_idle(t: &mut [u32], mode: Mode, i: u32, amount: u32, routine: u32, user_data: u32)
     requires { ⌜ IdleInTable (now t) i ⌝ }
-    ensures { λ _. ⌜ now (t .exit) ≡ over (started mode (read (now (t .entry))) i amount routine user_data) (now (t .entry)) ⌝ }
+    ensures { λ _. ⌜ now (t .exit) ≡ writtenOver (started mode (read (now (t .entry))) i amount routine user_data) (now (t .entry)) ⌝ }
 {
     let chain = chain_for(mode);
     let place = find_place(t, chain, amount);
@@ -265,7 +265,7 @@ fn start_idle(t: &mut [u32], mode: Mode, i: u32, amount: u32, routine: u32, user
 // A timer starts to wait, whatever it did before.
 pub fn start(t: &mut [u32], mode: Mode, i: u32, amount: u32, routine: u32, user_data: u32)
     requires { ⌜ InTable (now t) i ⌝ }
-    ensures { λ _. ⌜ now (t .exit) ≡ over (started mode (read (now (t .entry))) i amount routine user_data) (now (t .entry)) ⌝ }
+    ensures { λ _. ⌜ now (t .exit) ≡ writtenOver (started mode (read (now (t .entry))) i amount routine user_data) (now (t .entry)) ⌝ }
 {
     stop(t, i);
     start_idle(t, mode, i, amount, routine, user_data);
@@ -274,7 +274,7 @@ pub fn start(t: &mut [u32], mode: Mode, i: u32, amount: u32, routine: u32, user_
 // A slot gets another kind and name, and what was stored at a start is cleared.
 pub fn store(t: &mut [u32], i: u32, kind: u32, name: u32)
     requires { ⌜ InTable (now t) i ⌝ }
-    ensures { λ _. ⌜ now (t .exit) ≡ over (stored (read (now (t .entry))) i (record { kind = kind; name = name; interval = 0; routine = 0; userData = 0 })) (now (t .entry)) ⌝ }
+    ensures { λ _. ⌜ now (t .exit) ≡ writtenOver (stored (read (now (t .entry))) i (record { kind = kind; name = name; interval = 0; routine = 0; userData = 0 })) (now (t .entry)) ⌝ }
 {
     put(t, i, NAME, name);
     put_timer(t, i, kind, 0, 0, 0);

@@ -15,14 +15,14 @@ use Rattle.model.specs.Status.{firstOf}
 use Rattle.model.specs.Calls.{Call, layOut, create, ident, cancel, delete, fireAfter, fireWhen, reset, ticksLeft, tick, setClock, getClock}
 use Rattle.model.specs.Kinds.{Chain, ByTicks, ByDate, After, When, kindAt, chainFor, lastMode}
 use Rattle.model.specs.State.{State, free, slotAt, indexOf, Fired, listed}
-use Rattle.model.specs.Directives.{refusals, lowestFree, unused, idled, effect}
-use Rattle.model.specs.History.{Start, startOf, Event, laidOutFor, changes, deletes, oneTick, clockSetTo, nothing, lastStart, eventOf, isTick, moves, Placed, starts, entry}
+use Rattle.model.specs.Directives.{refusals, lowestFree, neverStarted, idled, effect}
+use Rattle.model.specs.History.{Start, startOf, Event, laidOutFor, changes, deletes, oneTick, clockSetTo, nothing, lastStart, eventOf, isTick, movesClock, Placed, starts, entry}
 use Rattle.model.proofs.ListLaws.{clash, all, keep-none}
 use Rattle.model.proofs.WellFormed.{WellFormed}
 use Rattle.model.proofs.KindLaws.{timed-mode, timed-last}
 use Rattle.model.proofs.Slots.{memo, memo-idled}
 use Rattle.model.proofs.Searches.{found}
-use Rattle.model.proofs.Refused.{accepted-facts}
+use Rattle.model.proofs.AcceptedCalls.{accepted-facts}
 use Rattle.model.proofs.HistoryLaws.{Sized, dueNow, chainFrom, firingIn, chain-fires}
 use Rattle.model.proofs.ChainLaws.{bringsDue, not-due}
 use Rattle.model.proofs.Simulation.{Remembers, Agrees, no-start, on-nothing, on-stored, on-lay-out, on-stop, on-delete, on-start}
@@ -52,7 +52,7 @@ module _ (s : State) (h : List Event) (v : Agrees s h) (f : WellFormed s) (words
       let low = found (λ x. eqb (x .kind) 0) (s .slots) (p .1) in
       let blank = f .shape i .blank (omega (arith, eqb-true (slotAt (s .slots) i .kind) 0 (low .passes))) in
       let kind = eqb-true (slotAt (s .slots) i .kind) 0 (low .passes) in
-      on-stored s h v i (unused name) (λ j. record {
+      on-stored s h v i (neverStarted name) (λ j. record {
         last = sym (ap (λ (n : ℕ). kindAt n .last) kind) j;
         interval = sym (blank .0) j;
         routine = sym (blank .1) j;
@@ -87,7 +87,7 @@ module _ (s : State) (h : List Event) (v : Agrees s h) (f : WellFormed s) (words
 
 -- ---- what is listed
 
-no-tick : (e : Event) → moves e ≡ false → isTick e ≡ false
+no-tick : (e : Event) → movesClock e ≡ false → isTick e ≡ false
 no-tick (laidOutFor k) z = refl
 no-tick (changes i s) z = refl
 no-tick (deletes i) z = refl
@@ -101,7 +101,7 @@ module _ (h : List Event) (sized : All Sized (starts h)) (e : Event) where
   empty (x ∷ xs) z = absurd (cons≢nil z)
 
   -- an event that does not move the clock makes nothing due
-  pub none-due : (k : Chain) → moves e ≡ false → firingIn k h e ≡ []
+  pub none-due : (k : Chain) → movesClock e ≡ false → firingIn k h e ≡ []
   none-due k still =
       empty (firingIn k h e)
       (chain-fires k h sized e
@@ -111,7 +111,7 @@ module _ (h : List Event) (sized : All Sized (starts h)) (e : Event) where
       calm ByTicks = no-tick e still
       calm ByDate = still
 
-  none-listed : moves e ≡ false → [] ≡ map entry (firingIn ByTicks h e ++ firingIn ByDate h e)
+  none-listed : movesClock e ≡ false → [] ≡ map entry (firingIn ByTicks h e ++ firingIn ByDate h e)
   none-listed still = sym (ap₂ (λ (a b : List Placed). map entry (a ++ b)) (none-due ByTicks still) (none-due ByDate still))
 
   -- the listed ones are those due, interval timers first
@@ -140,7 +140,7 @@ module _ (s : State) (h : List Event) (v : Agrees s h) (f : WellFormed s) (words
   lists-due getClock e = none-listed h (v .sized) nothing refl
 
 -- a tick and a set clock answer the number of those that fire
-pub counts : (s : State) (h : List Event) (c : Call) → moves (eventOf h c) ≡ true → effect s c .answer ≡ length (effect s c .fired) ∷ []
+pub counts : (s : State) (h : List Event) (c : Call) → movesClock (eventOf h c) ≡ true → effect s c .answer ≡ length (effect s c .fired) ∷ []
 counts s h (layOut n t) e = clash (sym e)
 counts s h (create name) e = clash (sym e)
 counts s h (ident name) e = clash (sym e)

@@ -9,7 +9,7 @@ use lib.Dec.{eqb}
 use Rattle.model.specs.Lists.{keep, place, All}
 use Rattle.model.specs.Kinds.{Chain, ByTicks, ByDate, Mode, After, When, chainFor, sameChain}
 use Rattle.model.specs.Directives.{intervalIn}
-use Rattle.model.specs.History.{Start, Event, changes, isTick, moves, Placed, starts, ends, remaining, Waiting, waiting}
+use Rattle.model.specs.History.{Start, Event, changes, isTick, movesClock, Placed, starts, ends, remaining, Waiting, waiting}
 use Rattle.model.proofs.ListLaws.{all, keep-on}
 use Rattle.model.proofs.Order.{orderOn}
 use Rattle.model.proofs.HistoryLaws.{Sized, dueNow, lowered, chainFrom, remains, fresh, chain-more}
@@ -17,7 +17,7 @@ use Rattle.model.proofs.HistoryLaws.{Sized, dueNow, lowered, chainFrom,
 -- the event can bring timers of the chain due: a tick those by ticks, whatever moves the clock those by date
 abbrev pub bringsDue : Chain → Event → Bool
 bringsDue ByTicks e = isTick e
-bringsDue ByDate e = moves e
+bringsDue ByDate e = movesClock e
 
 lowered-same : (k : Chain) (e : Event) → bringsDue k e ≡ false → (w : Waiting) → lowered k e w ≡ w
 lowered-same ByTicks e calm w =

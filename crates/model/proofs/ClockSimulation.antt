@@ -14,7 +14,7 @@ use Rattle.model.specs.Kinds.{Chain, ByTicks, ByDate}
 use Rattle.model.specs.State.{Slot, Link, Clock, State, chainOf, idBase, Fired, listed}
 use Rattle.calendar.specs.Calendar.{lastSecond}
 use Rattle.model.specs.Directives.{firedAll, closer, clockAt, clockStep, ticked, clockMoved}
-use Rattle.model.specs.History.{Start, Event, oneTick, clockSetTo, startIn, perSecond, clockAfter, atLeast, past, moves, ends, placed, inChain, Waiting, waiting}
+use Rattle.model.specs.History.{Start, Event, oneTick, clockSetTo, startIn, perSecond, clockAfter, atLeast, past, movesClock, ends, placed, inChain, Waiting, waiting}
 use Rattle.model.specs.Demand.{shown}
 use Rattle.model.proofs.ListLaws.{cases, clash, all, all-map, keep-map, keep-on, not-leb}
 use Rattle.model.proofs.Slots.{memo-firedAll}
@@ -29,7 +29,7 @@ use Rattle.model.proofs.Simulation.{shown-memo, Remembers, Agrees, kept
 
 module _ (s : State) (h : List Event) (v : Agrees s h) (e : Event) (quiet : (j : ℕ) → ends j e ≡ false) where
   -- those up to the second d fire, where the clock is then at or past just the dates up to d
-  module _ (d : ℕ) (moving : moves e ≡ true) (fresh-none : startIn e ≡ none)
+  module _ (d : ℕ) (moving : movesClock e ≡ true) (fresh-none : startIn e ≡ none)
       (cut : All (λ w. past (w .wait) (e ∷ h) ≡ leb (w .wait) d) (s .dated)) where
     none-fresh : fresh ByDate e h ≡ []
     none-fresh = ap (λ (o : Option Start). map waiting (keep (inChain ByDate) (placed o (e ∷ h)))) fresh-none
@@ -53,12 +53,12 @@ module _ (s : State) (h : List Event) (v : Agrees s h) (e : Event) (quiet : (j :
     dated-left =
         let sl = s .slots in
         let l = s .dated in
-        let left : Waiting → Bool = remains ByDate e h in
+        let ticksLeftOrDate : Waiting → Bool = remains ByDate e h in
         sym (chain-moved ByDate h (v .sized) e none-fresh
-        ∙ map-same (λ w. w) (λ w. refl) (keep left (chainFrom ByDate h))
-        ∙ ap (keep left) (sym (v .chain ByDate))
-        ∙ keep-map (shown sl) left l
-        ∙ ap (map (shown sl)) (keep-on (λ w. left (shown sl w)) (λ w. ltb d (w .wait)) l
+        ∙ map-same (λ w. w) (λ w. refl) (keep ticksLeftOrDate (chainFrom ByDate h))
+        ∙ ap (keep ticksLeftOrDate) (sym (v .chain ByDate))
+        ∙ keep-map (shown sl) ticksLeftOrDate l
+        ∙ ap (map (shown sl)) (keep-on (λ w. ticksLeftOrDate (shown sl w)) (λ w. ltb d (w .wait)) l
         (all-map (λ w p. ap₂ (λ (a b : Bool). not a && not b) (quiet (idBase + w .slot)) p ∙ sym (not-leb (w .wait) d)) l (due-is l cut))))
 
 -- the clock in ticks and a state's clock say the same of dates above the second

@@ -14,17 +14,17 @@ use Rattle.model.specs.Calls.{Call, layOut, reset, lentTo}
 use Rattle.model.specs.Kinds.{Chain, ByTicks, ByDate, chainFor}
 use Rattle.model.specs.State.{State, names, listed}
 use Rattle.model.specs.Directives.{laidOut, effect}
-use Rattle.model.specs.Words.{first, word, field, along, links, read}
+use Rattle.model.specs.Words.{first, along, links, read, slotCount, previousOf}
 use Rattle.model.specs.Sound.{sound}
 use Rattle.model.specs.Outcome.{Outcome, statusOn, outcome}
-use Rattle.model.specs.History.{Start, Event, laidOutFor, changes, eventOf, eventsOn, starts, fires, inChain, left, entry}
+use Rattle.model.specs.History.{Start, Event, laidOutFor, changes, eventOf, eventsOn, starts, fires, inChain, ticksLeftOrDate, entry}
 use Rattle.model.specs.Demand.{after, acceptedIn, shown, Standing, Begins, Lists, Answers, eventsAfter, Demand3}
 use Rattle.model.proofs.ListLaws.{cases}
 use Rattle.model.proofs.Order.{order, order-in-order}
 use Rattle.model.proofs.Chains.{once-all}
 use Rattle.model.proofs.ReadBack.{slots-length, by-previous}
 use Rattle.model.proofs.SoundHolds.{sound-holds, sound-well-formed}
-use Rattle.model.proofs.Kept.{bound}
+use Rattle.model.proofs.KeptWellFormed.{bound}
 use Rattle.model.proofs.HistoryLaws.{waitingIn, chainFrom, firingIn, shown-order}
 use Rattle.model.proofs.Simulation.{Agrees, agrees-laid}
 use Rattle.model.proofs.Agreement.{reset-last, agrees-step, lists-due, none-due, counts}
@@ -46,7 +46,7 @@ module _ (t : List ℕ) (h : List Event) (g : SoundAndAgreeing t h) where
       let hold = sound-holds t (g .is-sound) in
       record {
         is-sound = g .is-sound;
-        by-next = λ k. (order left (waitingIn k h), order-in-order left (waitingIn k h), each k ∙ sym (shown-order (waitingIn k h)));
+        by-next = λ k. (order ticksLeftOrDate (waitingIn k h), order-in-order ticksLeftOrDate (waitingIn k h), each k ∙ sym (shown-order (waitingIn k h)));
         by-previous = back;
         once = once-all (read t) (hold .chained);
         rate = g .agrees .per;
@@ -57,7 +57,7 @@ module _ (t : List ℕ) (h : List Event) (g : SoundAndAgreeing t h) where
       each ByTicks = g .agrees .chain ByTicks
       each ByDate = g .agrees .chain ByDate
 
-      back : (k : Chain) → along (field t 7) (word t 0) (first (reverse (links k t)))
+      back : (k : Chain) → along (previousOf t) (slotCount t) (first (reverse (links k t)))
           ≡ map (λ w. w .slot) (reverse (links k t))
       back ByTicks = by-previous t (read t) (sound-holds t (g .is-sound)) ByTicks
       back ByDate = by-previous t (read t) (sound-holds t (g .is-sound)) ByDate
@@ -85,11 +85,11 @@ module _ (t : List ℕ) (h : List Event) (g : SoundAndAgreeing t h) (c : Call) w
       record {
         ticking = l;
         dated = m;
-        ticking-order = order-in-order left (keep (inChain ByTicks) (keep (fires (eventOf h c)) (starts h)));
-        dated-order = order-in-order left (keep (inChain ByDate) (keep (fires (eventOf h c)) (starts h)));
+        ticking-order = order-in-order ticksLeftOrDate (keep (inChain ByTicks) (keep (fires (eventOf h c)) (starts h)));
+        dated-order = order-in-order ticksLeftOrDate (keep (inChain ByDate) (keep (fires (eventOf h c)) (starts h)));
         entries = subst (Begins (outcome t c .list) (lentTo c)) due (list-begins t (g .is-sound) c z);
         counted = λ moving. ap (λ (x : Outcome). x .answer) o ∙ counts (read t) h c moving ∙ ap {B = List ℕ} (λ (n : ℕ). n ∷ []) (sym many);
-        quiet = λ still. ap₂ (λ a b. a ++ b) (none-due h (g .agrees .sized) (eventOf h c) ByTicks still) (none-due h (g .agrees .sized) (eventOf h c) ByDate still);
+        fires-none = λ still. ap₂ (λ a b. a ++ b) (none-due h (g .agrees .sized) (eventOf h c) ByTicks still) (none-due h (g .agrees .sized) (eventOf h c) ByDate still);
         few = omega (arith, many, bound (read t) f c, slots-length t);
       }
 

@@ -11,7 +11,7 @@ use borrow.Author.Tests.{leb-true, leb-false, le-leb, lt-leb, eqb-true, eqb-fals
 use Rattle.model.specs.Lists.{keep, All}
 use Rattle.model.specs.Kinds.{Chain, ByTicks, ByDate, Mode, After, When, chainFor, sameChain}
 use Rattle.model.specs.Directives.{intervalIn}
-use Rattle.model.specs.History.{Start, Event, startIn, isTick, ticks, past, moves, Placed, also, placed, starts, ends, wasEnded, dueIn, isDue, wasDueIn, wasDue, waits, fires, inChain, remaining, left, entry, Waiting, waiting}
+use Rattle.model.specs.History.{Start, Event, startIn, isTick, ticks, past, movesClock, Placed, withEvent, placed, starts, ends, wasEnded, dueIn, isDue, wasDueIn, wasDue, waits, fires, inChain, remaining, ticksLeftOrDate, entry, Waiting, waiting}
 use Rattle.model.proofs.ListLaws.{cases, clash, both, all, all-map, all-append, all-keep, all-passed, all-zip, all-mapped, keep-append, keep-and, keep-on, keep-map, map-on}
 use Rattle.model.proofs.Order.{order, orderOn, keep-order, orderOn-append, map-orderOn, map-order}
 use Rattle.model.proofs.Shapes.{Some}
@@ -22,7 +22,7 @@ use Rattle.model.proofs.Shapes.{Some}
 abbrev stays : Event → Placed → Bool
 stays e g = not (ends (g .begun .id) e) && not (isDue e g)
 
-waits-also : (e : Event) (g : Placed) → waits (also e g) ≡ (waits g && stays e g)
+waits-also : (e : Event) (g : Placed) → waits (withEvent e g) ≡ (waits g && stays e g)
 waits-also e g = still (ends (g .begun .id) e) (wasEnded g) (isDue e g) (wasDue g)
   where
     still : (a b c d : Bool) → (not (a || b) && not (c || d)) ≡ ((not b && not d) && (not a && not c))
@@ -48,8 +48,8 @@ Whole h g = g .after ++ g .before ≡ h
 whole : (h : List Event) → All (Whole h) (starts h)
 whole [] = tt
 whole (e ∷ h) =
-    all-append (Whole (e ∷ h)) (map (also e) (starts h)) (placed (startIn e) (e ∷ h))
-    (all-mapped (also e) (Whole (e ∷ h)) (starts h) (all-map (λ g p. ap {B = List Event} (λ l. e ∷ l) p) (starts h) (whole h))) (go (startIn e))
+    all-append (Whole (e ∷ h)) (map (withEvent e) (starts h)) (placed (startIn e) (e ∷ h))
+    (all-mapped (withEvent e) (Whole (e ∷ h)) (starts h) (all-map (λ g p. ap {B = List Event} (λ l. e ∷ l) p) (starts h) (whole h))) (go (startIn e))
   where
     go : (o : Option Start) → All (Whole (e ∷ h)) (placed o (e ∷ h))
     go none = tt
@@ -85,7 +85,7 @@ waits-all k h sized =
 -- a waiting timer of chain k is due in e, which comes after the events h
 abbrev pub dueNow : Chain → Event → List Event → Waiting → Bool
 dueNow ByTicks e h w = isTick e && leb (w .wait) 1
-dueNow ByDate e h w = moves e && past (w .wait) (e ∷ h)
+dueNow ByDate e h w = movesClock e && past (w .wait) (e ∷ h)
 
 -- it comes nearer by the tick e
 abbrev pub lowered : Chain → Event → Waiting → Waiting
@@ -154,12 +154,12 @@ module _ (h : List Event) (g : Placed) where
     due-now ByDate v = go (g .begun .mode) (v .in-chain)
       where
         go : (m : Mode) → sameChain ByDate (chainFor m) ≡ true
-            → dueIn m (g .begun .amount) e (g .before) (g .after) ≡ (moves e && past (remaining m (g .begun .amount) (ticks (g .after))) (e ∷ h))
+            → dueIn m (g .begun .amount) e (g .before) (g .after) ≡ (movesClock e && past (remaining m (g .begun .amount) (ticks (g .after))) (e ∷ h))
         go After f = clash (sym f)
-        go When f = ap (λ (l : List Event). moves e && past (g .begun .amount) (e ∷ l)) (v .whole)
+        go When f = ap (λ (l : List Event). movesClock e && past (g .begun .amount) (e ∷ l)) (v .whole)
 
     -- where it is not due
-    shown-also : (k : Chain) → Waits k h g → waiting (also e g) ≡ lowered k e (waiting g)
+    shown-also : (k : Chain) → Waits k h g → waiting (withEvent e g) ≡ lowered k e (waiting g)
     shown-also ByTicks v =
         ap {B = Waiting} (λ (n : ℕ). record { shows = waiting g .shows; mode = waiting g .mode; interval = waiting g .interval; wait = n })
         (go (g .begun .mode) (v .in-chain))
@@ -194,10 +194,10 @@ chainFrom k h = inOrder (map waiting (waitingIn k h))
 
 -- those of a chain that fire in e, in firing order
 abbrev pub firingIn : Chain → List Event → Event → List Placed
-firingIn k h e = order left (keep (inChain k) (keep (fires e) (starts h)))
+firingIn k h e = order ticksLeftOrDate (keep (inChain k) (keep (fires e) (starts h)))
 
-pub shown-order : (l : List Placed) → map waiting (order left l) ≡ inOrder (map waiting l)
-shown-order l = map-orderOn waiting left (λ w. w .wait) (λ g. refl) [] l
+pub shown-order : (l : List Placed) → map waiting (order ticksLeftOrDate l) ≡ inOrder (map waiting l)
+shown-order l = map-orderOn waiting ticksLeftOrDate (λ w. w .wait) (λ g. refl) [] l
 
 -- a waiting timer still waits after the event e, which comes after h
 abbrev pub remains : Chain → Event → List Event → Waiting → Bool
@@ -225,26 +225,26 @@ lowered-order ByDate e x y p q = refl
 module _ (k : Chain) (h : List Event) (sized : All Sized (starts h)) (e : Event) where
   -- a part of the waiting starts, one event later
   later : (p : Placed → Bool) (q : Waiting → Bool) (f : Waiting → Waiting)
-      → ((g : Placed) → Waits k h g → p g ≡ q (waiting g)) → ((g : Placed) → Waits k h g → q (waiting g) ≡ true → waiting (also e g) ≡ f (waiting g))
-      → map waiting (map (also e) (keep p (waitingIn k h))) ≡ map f (keep q (map waiting (waitingIn k h)))
+      → ((g : Placed) → Waits k h g → p g ≡ q (waiting g)) → ((g : Placed) → Waits k h g → q (waiting g) ≡ true → waiting (withEvent e g) ≡ f (waiting g))
+      → map waiting (map (withEvent e) (keep p (waitingIn k h))) ≡ map f (keep q (map waiting (waitingIn k h)))
   later p q f same shows =
       let W = waitingIn k h in
       let q′ : Placed → Bool = λ g. q (waiting g) in
-      map-map waiting (also e) (keep p W)
-      ∙ ap (map (λ g. waiting (also e g))) (keep-on p q′ W (all-map same W (waits-all k h sized)))
-      ∙ map-on (λ g. waiting (also e g)) (λ g. f (waiting g)) (keep q′ W)
+      map-map waiting (withEvent e) (keep p W)
+      ∙ ap (map (λ g. waiting (withEvent e g))) (keep-on p q′ W (all-map same W (waits-all k h sized)))
+      ∙ map-on (λ g. waiting (withEvent e g)) (λ g. f (waiting g)) (keep q′ W)
       (all-map (λ g r. shows g (r .0) (r .1)) (keep q′ W)
       (all-zip (Waits k h) (λ g. q′ g ≡ true) (keep q′ W) (all-keep (Waits k h) q′ W (waits-all k h sized)) (all-passed q′ W)))
       ∙ sym (map-map f waiting (keep q′ W))
       ∙ ap (map f) (sym (keep-map waiting q W))
 
-  still-waiting : keep (inChain k) (keep waits (map (also e) (starts h))) ≡ map (also e) (keep (stays e) (waitingIn k h))
+  still-waiting : keep (inChain k) (keep waits (map (withEvent e) (starts h))) ≡ map (withEvent e) (keep (stays e) (waitingIn k h))
   still-waiting =
-      ap (keep (inChain k)) (keep-map (also e) waits (starts h)
-      ∙ ap (map (also e)) (keep-on (λ g. waits (also e g)) (λ g. waits g && stays e g) (starts h) (all (waits-also e) (starts h))
+      ap (keep (inChain k)) (keep-map (withEvent e) waits (starts h)
+      ∙ ap (map (withEvent e)) (keep-on (λ g. waits (withEvent e g)) (λ g. waits g && stays e g) (starts h) (all (waits-also e) (starts h))
       ∙ sym (keep-and (stays e) waits (starts h))))
-      ∙ keep-map (also e) (inChain k) (keep (stays e) (keep waits (starts h)))
-      ∙ ap (map (also e)) (keep-swap (inChain k) (stays e) (keep waits (starts h)))
+      ∙ keep-map (withEvent e) (inChain k) (keep (stays e) (keep waits (starts h)))
+      ∙ ap (map (withEvent e)) (keep-swap (inChain k) (stays e) (keep waits (starts h)))
 
   waits-fresh : (o : Option Start) → keep waits (placed o (e ∷ h)) ≡ placed o (e ∷ h)
   waits-fresh none = refl
@@ -255,10 +255,10 @@ module _ (k : Chain) (h : List Event) (sized : All Sized (starts h)) (e : Event)
       ≡ map (lowered k e) (keep (remains k e h) (map waiting (waitingIn k h))) ++ fresh k e h
   one-more =
       let new = placed (startIn e) (e ∷ h) in
-      ap (map waiting) (ap (keep (inChain k)) (keep-append waits (map (also e) (starts h)) new)
-      ∙ keep-append (inChain k) (keep waits (map (also e) (starts h))) (keep waits new)
+      ap (map waiting) (ap (keep (inChain k)) (keep-append waits (map (withEvent e) (starts h)) new)
+      ∙ keep-append (inChain k) (keep waits (map (withEvent e) (starts h))) (keep waits new)
       ∙ ap₂ (λ (a b : List Placed). a ++ b) still-waiting (ap (keep (inChain k)) (waits-fresh (startIn e))))
-      ∙ map-append waiting (map (also e) (keep (stays e) (waitingIn k h))) (keep (inChain k) new)
+      ∙ map-append waiting (map (withEvent e) (keep (stays e) (waitingIn k h))) (keep (inChain k) new)
       ∙ ap (λ (l : List Waiting). l ++ fresh k e h)
       (later (stays e) (remains k e h) (lowered k e)
       (λ g v. ap (λ (b : Bool). not (ends (g .begun .id) e) && not b) (due-now h g e k v)) (λ g v _. shown-also h g e k v))
@@ -292,4 +292,4 @@ module _ (k : Chain) (h : List Event) (sized : All Sized (starts h)) (e : Event)
 
 -- the starts stay sized
 pub sized-more : (h : List Event) (e : Event) → All Sized (starts h) → All Sized (placed (startIn e) (e ∷ h)) → All Sized (starts (e ∷ h))
-sized-more h e p q = all-append Sized (map (also e) (starts h)) (placed (startIn e) (e ∷ h)) (all-mapped (also e) Sized (starts h) p) q
+sized-more h e p q = all-append Sized (map (withEvent e) (starts h)) (placed (startIn e) (e ∷ h)) (all-mapped (withEvent e) Sized (starts h) p) q

@@ -9,7 +9,7 @@ use lib.ListN.{length, getD, List·getD-eq-default}
 use lib.Dec.{leb, ltb, eqb}
 use borrow.Author.Tests.{leb-true, le-leb, lt-leb, ltb-true, ltb-false, eqb-true}
 use Rattle.calendar.specs.Calendar.{allOf}
-use Rattle.model.specs.Kinds.{Chain, ByTicks, ByDate, Mode, After, When, Kind, is, kinds, kindAt, chainFor, waitingKind, sameChain, isIn, waitsIn, isSome, byTicks, lastByTicks, orAfter}
+use Rattle.model.specs.Kinds.{Chain, ByTicks, ByDate, Mode, After, When, Kind, kindEntry, kinds, kindAt, chainFor, waitingKind, sameChain, isIn, waitsIn, isSome, byTicks, lastByTicks, modeOrAfter}
 use Rattle.model.proofs.ListLaws.{cases, clash, all-at}
 
 -- what a reading of kinds gives for each kind of a table
@@ -19,23 +19,23 @@ readAll f n (x ∷ xs) = f n x ∷ readAll f (suc n) xs
 
 read-at : {B : Type 0} (f : ℕ → Kind → B) (b : ℕ) (xs : List Kind) (d : B) (x : Kind) (j m : ℕ) → b + j ≡ m → j < length xs
     → getD (readAll f b xs) j d ≡ f m (getD xs j x)
-read-at f b [] d x j m is p = absurd (omega arith)
-read-at f b (y ∷ ys) d x zero m is p = let e : b ≡ m = omega arith in ap (λ (n : ℕ). f n y) e
-read-at f b (y ∷ ys) d x (suc j) m is p = read-at f (suc b) ys d x j m (omega arith) (omega arith)
+read-at f b [] d x j m kindEntry p = absurd (omega arith)
+read-at f b (y ∷ ys) d x zero m kindEntry p = let e : b ≡ m = omega arith in ap (λ (n : ℕ). f n y) e
+read-at f b (y ∷ ys) d x (suc j) m kindEntry p = read-at f (suc b) ys d x j m (omega arith) (omega arith)
 
 -- Two readings that agree on the table of kinds, which the checker computes, agree on every kind; and on any number, where they agree on those
 -- that are no kind.
 pub on-kinds : {B : Type 0} (f g : ℕ → Kind → B) → readAll f 0 kinds ≡ readAll g 0 kinds → (n : ℕ) → n < length kinds → f n (kindAt n) ≡ g n (kindAt n)
 on-kinds f g same n p =
     let d = f n (kindAt n) in
-    let x = is none n n none in
+    let x = kindEntry none n n none in
     sym (read-at f 0 kinds d x n n (omega arith) p) ∙ ap (λ l. getD l n d) same ∙ read-at g 0 kinds d x n n (omega arith) p
 
-no-kind : (n : ℕ) → length kinds ≤ n → kindAt n ≡ is none n n none
-no-kind n p = List·getD-eq-default kinds (is none n n none) {n = n} p
+no-kind : (n : ℕ) → length kinds ≤ n → kindAt n ≡ kindEntry none n n none
+no-kind n p = List·getD-eq-default kinds (kindEntry none n n none) {n = n} p
 
 pub on-numbers : {B : Type 0} (f g : ℕ → Kind → B) → readAll f 0 kinds ≡ readAll g 0 kinds
-    → ((n : ℕ) → kindAt n ≡ is none n n none → f n (is none n n none) ≡ g n (is none n n none)) → (n : ℕ) → f n (kindAt n) ≡ g n (kindAt n)
+    → ((n : ℕ) → kindAt n ≡ kindEntry none n n none → f n (kindEntry none n n none) ≡ g n (kindEntry none n n none)) → (n : ℕ) → f n (kindAt n) ≡ g n (kindAt n)
 on-numbers f g same other n =
     cases (ltb n (length kinds))
     (λ e. on-kinds f g same n (ltb-true n (length kinds) e))
@@ -84,33 +84,33 @@ in-none (some j) k e = clash e
 
 -- ---- kinds
 
-pub stopped-not-in : (k : Chain) (n : ℕ) → waitsIn k (kindAt n .stopped) ≡ false
-stopped-not-in ByTicks = on-numbers (λ _ x. waitsIn ByTicks (x .stopped)) (λ _ _. false) refl (λ n e. ap (λ (x : Kind). isIn ByTicks (x .chain)) e)
-stopped-not-in ByDate = on-numbers (λ _ x. waitsIn ByDate (x .stopped)) (λ _ _. false) refl (λ n e. ap (λ (x : Kind). isIn ByDate (x .chain)) e)
+pub stopped-not-in : (k : Chain) (n : ℕ) → waitsIn k (kindAt n .whenStopped) ≡ false
+stopped-not-in ByTicks = on-numbers (λ _ x. waitsIn ByTicks (x .whenStopped)) (λ _ _. false) refl (λ n e. ap (λ (x : Kind). isIn ByTicks (x .chain)) e)
+stopped-not-in ByDate = on-numbers (λ _ x. waitsIn ByDate (x .whenStopped)) (λ _ _. false) refl (λ n e. ap (λ (x : Kind). isIn ByDate (x .chain)) e)
 
-pub fired-not-in : (k : Chain) (n : ℕ) → waitsIn k (kindAt n .fired) ≡ false
-fired-not-in ByTicks = on-numbers (λ _ x. waitsIn ByTicks (x .fired)) (λ _ _. false) refl (λ n e. ap (λ (x : Kind). isIn ByTicks (x .chain)) e)
-fired-not-in ByDate = on-numbers (λ _ x. waitsIn ByDate (x .fired)) (λ _ _. false) refl (λ n e. ap (λ (x : Kind). isIn ByDate (x .chain)) e)
+pub fired-not-in : (k : Chain) (n : ℕ) → waitsIn k (kindAt n .whenFired) ≡ false
+fired-not-in ByTicks = on-numbers (λ _ x. waitsIn ByTicks (x .whenFired)) (λ _ _. false) refl (λ n e. ap (λ (x : Kind). isIn ByTicks (x .chain)) e)
+fired-not-in ByDate = on-numbers (λ _ x. waitsIn ByDate (x .whenFired)) (λ _ _. false) refl (λ n e. ap (λ (x : Kind). isIn ByDate (x .chain)) e)
 
 -- to stop and to fire leave a slot free or not
-pub stopped-free : (n : ℕ) → eqb (kindAt n .stopped) 0 ≡ eqb n 0
-stopped-free = on-numbers (λ _ x. eqb (x .stopped) 0) (λ n _. eqb n 0) refl (λ n e. refl)
+pub stopped-free : (n : ℕ) → eqb (kindAt n .whenStopped) 0 ≡ eqb n 0
+stopped-free = on-numbers (λ _ x. eqb (x .whenStopped) 0) (λ n _. eqb n 0) refl (λ n e. refl)
 
-pub fired-free : (n : ℕ) → eqb (kindAt n .fired) 0 ≡ eqb n 0
-fired-free = on-numbers (λ _ x. eqb (x .fired) 0) (λ n _. eqb n 0) refl (λ n e. refl)
+pub fired-free : (n : ℕ) → eqb (kindAt n .whenFired) 0 ≡ eqb n 0
+fired-free = on-numbers (λ _ x. eqb (x .whenFired) 0) (λ n _. eqb n 0) refl (λ n e. refl)
 
 -- a timer in no chain has nothing to stop
-pub stays : (n : ℕ) → isSome (kindAt n .chain) ≡ false → kindAt n .stopped ≡ n
+pub stays : (n : ℕ) → isSome (kindAt n .chain) ≡ false → kindAt n .whenStopped ≡ n
 stays n e =
-    ap (λ (b : Bool). cond b n (kindAt n .stopped)) (sym e)
-    ∙ on-numbers (λ n x. cond (isSome (x .chain)) n (x .stopped)) (λ n _. n) refl (λ n e. refl) n
+    ap (λ (b : Bool). cond b n (kindAt n .whenStopped)) (sym e)
+    ∙ on-numbers (λ n x. cond (isSome (x .chain)) n (x .whenStopped)) (λ n _. n) refl (λ n e. refl) n
 
 -- to stop and to fire leave how the timer was started
-pub stopped-last : (n : ℕ) → kindAt (kindAt n .stopped) .last ≡ kindAt n .last
-stopped-last = on-numbers (λ _ x. kindAt (x .stopped) .last) (λ _ x. x .last) refl (λ n e. ap (λ (x : Kind). x .last) e)
+pub stopped-last : (n : ℕ) → kindAt (kindAt n .whenStopped) .last ≡ kindAt n .last
+stopped-last = on-numbers (λ _ x. kindAt (x .whenStopped) .last) (λ _ x. x .last) refl (λ n e. ap (λ (x : Kind). x .last) e)
 
-pub fired-last : (n : ℕ) → kindAt (kindAt n .fired) .last ≡ kindAt n .last
-fired-last = on-numbers (λ _ x. kindAt (x .fired) .last) (λ _ x. x .last) refl (λ n e. ap (λ (x : Kind). x .last) e)
+pub fired-last : (n : ℕ) → kindAt (kindAt n .whenFired) .last ≡ kindAt n .last
+fired-last = on-numbers (λ _ x. kindAt (x .whenFired) .last) (λ _ x. x .last) refl (λ n e. ap (λ (x : Kind). x .last) e)
 
 -- free stays free, never started stays so, and started stays started
 pub record Alike (n m : ℕ) : Type 0 where
@@ -130,11 +130,11 @@ alike n m e =
       high = λ p. leb-true 2 m (subst (λ (b : Bool). cond b (eqb m n) (leb 2 m) ≡ true) (lt-leb n 1 p) (t 1));
     }
 
-pub stopped-alike : (n : ℕ) → n < length kinds → Alike n (kindAt n .stopped)
-stopped-alike n p = alike n (kindAt n .stopped) (on-kinds (λ n x. allOf (alikeTests n (x .stopped))) (λ _ _. true) refl n p)
+pub stopped-alike : (n : ℕ) → n < length kinds → Alike n (kindAt n .whenStopped)
+stopped-alike n p = alike n (kindAt n .whenStopped) (on-kinds (λ n x. allOf (alikeTests n (x .whenStopped))) (λ _ _. true) refl n p)
 
-pub fired-alike : (n : ℕ) → n < length kinds → Alike n (kindAt n .fired)
-fired-alike n p = alike n (kindAt n .fired) (on-kinds (λ n x. allOf (alikeTests n (x .fired))) (λ _ _. true) refl n p)
+pub fired-alike : (n : ℕ) → n < length kinds → Alike n (kindAt n .whenFired)
+fired-alike n p = alike n (kindAt n .whenFired) (on-kinds (λ n x. allOf (alikeTests n (x .whenFired))) (λ _ _. true) refl n p)
 
 -- a timer that was last started by ticks has been started
 pub timed-started : (n : ℕ) → lastByTicks n ≡ true → 2 ≤ n
@@ -144,11 +144,11 @@ timed-started (suc (suc n)) e = omega arith
 
 -- ---- modes
 
-pub timed-mode : (o : Option Mode) → byTicks o ≡ true → chainFor (orAfter o) ≡ ByTicks
+pub timed-mode : (o : Option Mode) → byTicks o ≡ true → chainFor (modeOrAfter o) ≡ ByTicks
 timed-mode none e = clash (sym e)
 timed-mode (some m) e = sym (same-chain ByTicks (chainFor m) e)
 
-pub timed-last : (o : Option Mode) → byTicks o ≡ true → o ≡ some (orAfter o)
+pub timed-last : (o : Option Mode) → byTicks o ≡ true → o ≡ some (modeOrAfter o)
 timed-last none e = clash (sym e)
 timed-last (some m) e = refl
 

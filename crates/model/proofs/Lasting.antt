@@ -11,8 +11,8 @@ use borrow.Author.Tests.{eqb-true, eqb-false, eq-eqb, ne-eqb}
 use Rattle.calendar.specs.Calendar.{allOf, secondsOf}
 use Rattle.model.specs.Calls.{Call, layOut, create, ident, cancel, delete, fireAfter, fireWhen, reset, ticksLeft, tick, setClock, getClock}
 use Rattle.model.specs.Kinds.{Kind, Mode, After, When, Chain, ByTicks, ByDate, kindAt, waitingKind, lastMode}
-use Rattle.model.specs.State.{Slot, Link, State, reclock, free, slotAt, putAt, idBase, indexOf, names}
-use Rattle.model.specs.Directives.{lowestFree, laidOut, stored, unused, stopped, idled, waitingAs, started, fired, firedAll, due, fire, nearer, clockAt, clockStep, effect}
+use Rattle.model.specs.State.{Slot, Link, State, withClock, free, slotAt, putAt, idBase, indexOf, names}
+use Rattle.model.specs.Directives.{lowestFree, laidOut, stored, neverStarted, stopped, idled, waitingAs, started, fired, firedAll, due, fire, nearer, clockAt, clockStep, effect}
 use Rattle.model.specs.Words.{sumOf, read}
 use Rattle.model.specs.Sound.{sound}
 use Rattle.model.specs.Outcome.{Outcome, statusOn, outcome}
@@ -24,8 +24,8 @@ use Rattle.model.proofs.Slots.{at-same, at-other, length-put, field-put
 use Rattle.model.proofs.WellFormed.{timesIn}
 use Rattle.model.proofs.Chains.{times-without}
 use Rattle.model.proofs.Searches.{found}
-use Rattle.model.proofs.Steps.{rechain-slots}
-use Rattle.model.proofs.Refused.{Named, named, named-true, Accepted, accepted-facts}
+use Rattle.model.proofs.Steps.{with-chain-slots}
+use Rattle.model.proofs.AcceptedCalls.{Named, named, named-true, Accepted, accepted-facts}
 use Rattle.model.proofs.OutcomeLaws.{status-is, outcome-accepted}
 use Rattle.model.proofs.CallTables.{state-left}
 
@@ -58,12 +58,12 @@ fired-slots (w ∷ ws) sl =
     then-free sl next (firedAll ws next) (put-free sl (w .slot) (fired x) (fired-free (x .kind))) (fired-slots ws next)
 
 fire-free : (k : Chain) (limit : ℕ) (s : State) → SameFree (s .slots) (fire k limit s .slots)
-fire-free k limit s = rw rechain-slots (fired-slots (due k limit s) (s .slots))
+fire-free k limit s = rw with-chain-slots (fired-slots (due k limit s) (s .slots))
 
 start-free : (s : State) (m : Mode) (id amount r u : ℕ) → Named s id → SameFree (s .slots) (started m s (indexOf id) amount r u .slots)
 start-free s m id amount r u is =
     let x = slotAt (s .slots) (indexOf id) in
-    simp rechain-slots (put-free (s .slots) (indexOf id) (waitingAs m x amount r u)
+    simp with-chain-slots (put-free (s .slots) (indexOf id) (waitingAs m x amount r u)
     (ne-eqb (waitingKind m) 0 (λ z. omega (arith, mode-kind m .0)) ∙ sym (ne-eqb (x .kind) 0 (is .alive))))
 
 -- ---- a timer that comes, and one that goes
@@ -87,10 +87,10 @@ module _ (s : State) where
       cases (names s id) (λ e. absurd (named s id e .alive (ap (λ (j : ℕ). slotAt (s .slots) j .kind) is ∙ gone))) (λ e. e)
 
   created : (name : ℕ) → 0 < lowestFree s → (id : ℕ)
-      → names (stored s (lowestFree s) (unused name)) id ≡ (eqb (idBase + lowestFree s) id || names s id)
+      → names (stored s (lowestFree s) (neverStarted name)) id ≡ (eqb (idBase + lowestFree s) id || names s id)
   created name some id =
       let i = lowestFree s in
-      let s′ = stored s i (unused name) in
+      let s′ = stored s i (neverStarted name) in
       let at = found isFree (s .slots) some in
       cases (eqb (idBase + i) id)
       (λ e.
@@ -98,14 +98,14 @@ module _ (s : State) where
       rw e (named-true s′ id (record {
         is = omega (arith, eqb-true (idBase + i) id e);
         low = omega (arith, is, at .low);
-        high = omega (arith, is, at .high, length-put (s .slots) i (unused name));
+        high = omega (arith, is, at .high, length-put (s .slots) i (neverStarted name));
         alive = λ z.
             let one : 1 ≡ 0 =
-            sym (ap (λ (x : Slot). x .kind) (at-same (s .slots) i (unused name) (at .low) (at .high)))
+            sym (ap (λ (x : Slot). x .kind) (at-same (s .slots) i (neverStarted name) (at .low) (at .high)))
             ∙ ap (λ (j : ℕ). slotAt (s′ .slots) j .kind) (sym is) ∙ z in
             omega arith;
       })))
-      (λ e. rw e (others-free s s′ i (unused name) refl id (λ is. eqb-false (idBase + i) id e (omega (arith, is, at .low)))))
+      (λ e. rw e (others-free s s′ i (neverStarted name) refl id (λ is. eqb-false (idBase + i) id e (omega (arith, is, at .low)))))
 
   pub created-anew : 0 < lowestFree s → names s (idBase + lowestFree s) ≡ false
   created-anew some =
@@ -145,11 +145,11 @@ lasts-step words s (tick list) p id =
     let clock = clockStep (s .clock) in
     let ticked = fire ByTicks 0 (nearer s) in
     same-names s (effect s (tick list) .state)
-    (then-free (s .slots) (ticked .slots) (fire ByDate (clock .second) (reclock ticked clock) .slots)
-    (fire-free ByTicks 0 (nearer s)) (fire-free ByDate (clock .second) (reclock ticked clock))) id
+    (then-free (s .slots) (ticked .slots) (fire ByDate (clock .second) (withClock ticked clock) .slots)
+    (fire-free ByTicks 0 (nearer s)) (fire-free ByDate (clock .second) (withClock ticked clock))) id
 lasts-step words s (setClock w list) p id =
     same-names s (effect s (setClock w list) .state)
-    (fire-free ByDate (secondsOf w) (reclock s (clockAt (s .clock) (secondsOf w) 0))) id
+    (fire-free ByDate (secondsOf w) (withClock s (clockAt (s .clock) (secondsOf w) 0))) id
 lasts-step words s getClock p id = refl
 
 module _ (t : List ℕ) (ok : sound t ≡ true) where

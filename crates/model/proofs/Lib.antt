@@ -2,12 +2,12 @@
 -- calls means; demand 3 and its readings; the worked cases.
 pub mod ListLaws
 pub mod Order
-pub mod Each
+pub mod EachPlace
 pub mod KindLaws
 pub mod WellFormed
 pub mod Slots
 pub mod Chains
-pub mod Spelling
+pub mod StateWords
 pub mod ReadBack
 pub mod Shapes
 pub mod SoundHolds
@@ -16,8 +16,8 @@ pub mod ClockSteps
 pub mod FiredSlots
 pub mod Searches
 pub mod Steps
-pub mod Refused
-pub mod Kept
+pub mod AcceptedCalls
+pub mod KeptWellFormed
 pub mod HistoryLaws
 pub mod ChainLaws
 pub mod ClockLaws

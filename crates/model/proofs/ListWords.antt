@@ -12,17 +12,17 @@ use borrow.Author.Tests.{eqb-true, eqb-false}
 use Rattle.model.specs.Calls.{Call, layOut, create, ident, cancel, delete, fireAfter, fireWhen, reset, ticksLeft, tick, setClock, getClock, lentTo}
 use Rattle.model.specs.State.{State, Fired, listed}
 use Rattle.model.specs.Directives.{effect}
-use Rattle.model.specs.Words.{word, read}
+use Rattle.model.specs.Words.{word, read, slotCount}
 use Rattle.model.specs.Sound.{sound}
 use Rattle.model.specs.Outcome.{Outcome, statusOn, entryWords, written, outcome}
 use Rattle.model.specs.Demand.{EntryAt, Begins}
 use Rattle.model.proofs.ListLaws.{cases}
 use Rattle.model.proofs.WellFormed.{WellFormed}
-use Rattle.model.proofs.Spelling.{length-over, past-over}
+use Rattle.model.proofs.StateWords.{length-over, past-over}
 use Rattle.model.proofs.SoundHolds.{sound-holds, sound-well-formed}
 use Rattle.model.proofs.Steps.{length-laid}
-use Rattle.model.proofs.Refused.{Accepted, accepted-facts}
-use Rattle.model.proofs.Kept.{slots-kept, bound}
+use Rattle.model.proofs.AcceptedCalls.{Accepted, accepted-facts}
+use Rattle.model.proofs.KeptWellFormed.{slots-kept, bound}
 use Rattle.model.proofs.OutcomeLaws.{each-call, status-is, outcome-accepted, outcome-refused}
 use Rattle.model.proofs.CallTables.{table-left}
 
@@ -101,12 +101,12 @@ module _ (t : List ℕ) (ok : sound t ≡ true) (c : Call) where
       ap length (table-left t ok c z) ∙ length-over s t (long-enough z))
       (λ e. ap (λ (o : Outcome). length (o .table)) (outcome-refused t c (eqb-false (statusOn t c) 0 e)))
 
-  pub words-beyond : (m : ℕ) → 10 + 8 * word (outcome t c .table) 0 ≤ m → word (outcome t c .table) m ≡ word t m
+  pub words-beyond : (m : ℕ) → 10 + 8 * slotCount (outcome t c .table) ≤ m → word (outcome t c .table) m ≡ word t m
   words-beyond m =
       cases (eqb (statusOn t c) 0)
       (λ e p.
       let z = eqb-true (statusOn t c) 0 e in
       let s = effect (read t) c .state in
       let is = table-left t ok c z in
-      ap (λ (u : List ℕ). word u m) is ∙ past-over s t m (omega (arith, p, ap (λ (u : List ℕ). word u 0) is)))
+      ap (λ (u : List ℕ). word u m) is ∙ past-over s t m (omega (arith, p, ap (λ (u : List ℕ). slotCount u) is)))
       (λ e p. ap (λ (o : Outcome). word (o .table) m) (outcome-refused t c (eqb-false (statusOn t c) 0 e)))

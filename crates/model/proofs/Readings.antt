@@ -13,9 +13,9 @@ use Rattle.model.specs.Lists.{goesBehind, keep, any, place, All, Sorted,
 use Rattle.model.specs.Calls.{Call, layOut, tick, setClock, lentTo}
 use Rattle.model.specs.Kinds.{Chain, ByTicks, ByDate, After, When, chainFor, sameChain}
 use Rattle.model.specs.State.{Fired}
-use Rattle.model.specs.History.{Start, startOf, Event, changes, oneTick, eventOf, clockSetTo, startIn, isTick, ticks, past, moves, Placed, also, placed, starts, ends, wasEnded, isDue, wasDueIn, wasDue, waits, fires, inChain, left, entry}
+use Rattle.model.specs.History.{Start, startOf, Event, changes, oneTick, eventOf, clockSetTo, startIn, isTick, ticks, past, movesClock, Placed, withEvent, placed, starts, ends, wasEnded, isDue, wasDueIn, wasDue, waits, fires, inChain, ticksLeftOrDate, entry}
 use Rattle.model.specs.Directives.{effect}
-use Rattle.model.specs.Words.{over, links, read}
+use Rattle.model.specs.Words.{writtenOver, links, read}
 use Rattle.model.specs.Sound.{sound}
 use Rattle.model.specs.Outcome.{Outcome, statusOn, outcome}
 use Rattle.model.specs.Demand.{after, Begins, eventsAfter}
@@ -81,8 +81,8 @@ pub record From (es : List Event) (g : Placed) : Type 0 where
 pub starts-from : (es : List Event) → All (From es) (starts es)
 starts-from [] = tt
 starts-from (e ∷ es) =
-    all-append (From (e ∷ es)) (map (also e) (starts es)) (placed (startIn e) (e ∷ es))
-    (all-mapped (also e) (From (e ∷ es)) (starts es) (all-map (λ g p. record {
+    all-append (From (e ∷ es)) (map (withEvent e) (starts es)) (placed (startIn e) (e ∷ es))
+    (all-mapped (withEvent e) (From (e ∷ es)) (starts es) (all-map (λ g p. record {
       earlier = p .earlier;
       event = p .event;
       split = ap {B = List Event} (λ l. e ∷ l) (p .split);
@@ -112,11 +112,11 @@ listed-of es e g p f =
     three false true c f = clash (sym f)
     three false false c f = (refl, refl, f)
 
-pub only-due : (k : Chain) (es : List Event) (e : Event) (l : List Placed) → InOrder left (keep (inChain k) (keep (fires e) (starts es))) l
+pub only-due : (k : Chain) (es : List Event) (e : Event) (l : List Placed) → InOrder ticksLeftOrDate (keep (inChain k) (keep (fires e) (starts es))) l
     → All (Listed es e) l
 only-due k es e l o =
-    subst (All (Listed es e)) (one-order left (keep (inChain k) S) (order left (keep (inChain k) S)) l (order-in-order left (keep (inChain k) S)) o)
-    (all-orderOn (Listed es e) left [] (keep (inChain k) S) tt (all-keep (Listed es e) (inChain k) S
+    subst (All (Listed es e)) (one-order ticksLeftOrDate (keep (inChain k) S) (order ticksLeftOrDate (keep (inChain k) S)) l (order-in-order ticksLeftOrDate (keep (inChain k) S)) o)
+    (all-orderOn (Listed es e) ticksLeftOrDate [] (keep (inChain k) S) tt (all-keep (Listed es e) (inChain k) S
     (all-map (λ g p. listed-of es e g (p .0) (p .1)) S
     (all-zip (From es) (λ g. fires e g ≡ true) S (all-keep (From es) (fires e) (starts es) (starts-from es)) (all-passed (fires e) (starts es))))))
   where
@@ -171,17 +171,17 @@ forDate timer d r u = startOf timer When d r u
 -- some tick or set clock of Q, which came after P, left the clock at or past the date
 abbrev pub reached : ℕ → List Event → List Event → Bool
 reached d P [] = false
-reached d P (e ∷ Q) = (moves e && past d (e ∷ Q ++ P)) || reached d P Q
+reached d P (e ∷ Q) = (movesClock e && past d (e ∷ Q ++ P)) || reached d P Q
 
 pub at-date : (P Q : List Event) (id timer d r u : ℕ) (e : Event) → let g = startAt P id (forDate timer d r u) Q in
-    fires e g ≡ ((not (any (ends timer) Q) && not (reached d (g .before) Q)) && (moves e && past d (e ∷ Q ++ g .before)))
+    fires e g ≡ ((not (any (ends timer) Q) && not (reached d (g .before) Q)) && (movesClock e && past d (e ∷ Q ++ g .before)))
 at-date P Q id timer d r u e =
     let B = changes id (some (forDate timer d r u)) ∷ P in
-    ap (λ (b : Bool). (not (any (ends timer) Q) && not b) && (moves e && past d (e ∷ Q ++ B))) (was B Q)
+    ap (λ (b : Bool). (not (any (ends timer) Q) && not b) && (movesClock e && past d (e ∷ Q ++ B))) (was B Q)
   where
     was : (B Q : List Event) → wasDueIn (forDate timer d r u) B Q ≡ reached d B Q
     was B [] = refl
-    was B (x ∷ Q) = ap (λ (b : Bool). (moves x && past d (x ∷ Q ++ B)) || b) (was B Q)
+    was B (x ∷ Q) = ap (λ (b : Bool). (movesClock x && past d (x ∷ Q ++ B)) || b) (was B Q)
 
 -- ---- 5. What fires is listed.
 
@@ -208,18 +208,18 @@ mem-order key acc (x ∷ xs) (List·Memᴰ·head q) = mem-acc key (place key x a
 mem-order key acc (x ∷ xs) (List·Memᴰ·tail m) = mem-order key (place key x acc) xs m
 
 pub start-placed : (P Q : List Event) (id : ℕ) (s : Start) → List·Memᴰ (startAt P id s Q) (starts (Q ++ (changes id (some s) ∷ P)))
-start-placed P [] id s = Memᴰ·append-right (map (also (changes id (some s))) (starts P)) (List·Memᴰ·head refl)
+start-placed P [] id s = Memᴰ·append-right (map (withEvent (changes id (some s))) (starts P)) (List·Memᴰ·head refl)
 start-placed P (x ∷ Q) id s =
-    Memᴰ·append-left (placed (startIn x) (x ∷ Q ++ (changes id (some s) ∷ P))) (Memᴰ·map (also x) (start-placed P Q id s))
+    Memᴰ·append-left (placed (startIn x) (x ∷ Q ++ (changes id (some s) ∷ P))) (Memᴰ·map (withEvent x) (start-placed P Q id s))
 
 -- a start that fires in e is in the list that demand 3 asks for
 pub fires-listed : (k : Chain) (P Q : List Event) (id : ℕ) (s : Start) (e : Event) (l : List Placed) → sameChain k (chainFor (s .mode)) ≡ true
-    → fires e (startAt P id s Q) ≡ true → InOrder left (keep (inChain k) (keep (fires e) (starts (Q ++ (changes id (some s) ∷ P))))) l
+    → fires e (startAt P id s Q) ≡ true → InOrder ticksLeftOrDate (keep (inChain k) (keep (fires e) (starts (Q ++ (changes id (some s) ∷ P))))) l
     → List·Memᴰ (startAt P id s Q) l
 fires-listed k P Q id s e l here f o =
     subst (λ (m : List Placed). List·Memᴰ (startAt P id s Q) m)
-    (one-order left (keep (inChain k) S) (order left (keep (inChain k) S)) l (order-in-order left (keep (inChain k) S)) o)
-    (mem-order left [] (keep (inChain k) S) (mem-keep (inChain k) {x = startAt P id s Q} S here
+    (one-order ticksLeftOrDate (keep (inChain k) S) (order ticksLeftOrDate (keep (inChain k) S)) l (order-in-order ticksLeftOrDate (keep (inChain k) S)) o)
+    (mem-order ticksLeftOrDate [] (keep (inChain k) S) (mem-keep (inChain k) {x = startAt P id s Q} S here
     (mem-keep (fires e) {x = startAt P id s Q} (starts (Q ++ (changes id (some s) ∷ P))) f (start-placed P Q id s))))
   where
     S : List Placed
@@ -227,7 +227,7 @@ fires-listed k P Q id s e l here f o =
 
 -- ---- 6. A set clock changes no start's ticks left.
 
-pub clock-moves-no-tick : (d : ℕ) (g : Placed) → left (also (clockSetTo d) g) ≡ left g
+pub clock-moves-no-tick : (d : ℕ) (g : Placed) → ticksLeftOrDate (withEvent (clockSetTo d) g) ≡ ticksLeftOrDate g
 clock-moves-no-tick d g = refl
 
 -- ---- 7. On the words: what an accepted tick writes to its list.
@@ -247,7 +247,7 @@ tick-lists w n t ok xs list P Q id timer k r u accepted is quiet nth =
       map entry (a .ticking ++ a .dated),
       a .entries,
       Memᴰ·map entry (Memᴰ·append-left (a .dated) (fires-listed ByTicks P Q id s oneTick (a .ticking) refl now
-          (subst (λ (es : List Event). InOrder left (keep (inChain ByTicks) (keep (fires oneTick) (starts es))) (a .ticking)) is (a .ticking-order)))),
+          (subst (λ (es : List Event). InOrder ticksLeftOrDate (keep (inChain ByTicks) (keep (fires oneTick) (starts es))) (a .ticking)) is (a .ticking-order)))),
     )
 
 -- An accepted tick or set clock that leaves the clock at or past a date lists a start for that date, where none before it did so and nothing
@@ -255,7 +255,7 @@ tick-lists w n t ok xs list P Q id timer k r u accepted is quiet nth =
 pub date-lists : (w : List ℕ) (n t : ℕ) → outcome w (layOut n t) .status ≡ 0 → (xs : List Call) (c : Call) (P Q : List Event) (id timer d r u : ℕ)
     → outcome (after w (layOut n t ∷ xs)) c .status ≡ 0 → let es = eventsAfter w (layOut n t ∷ xs) in
     let B = changes id (some (forDate timer d r u)) ∷ P in
-    es ≡ Q ++ B → any (ends timer) Q ≡ false → reached d B Q ≡ false → moves (eventOf es c) ≡ true → past d (eventOf es c ∷ Q ++ B) ≡ true
+    es ≡ Q ++ B → any (ends timer) Q ≡ false → reached d B Q ≡ false → movesClock (eventOf es c) ≡ true → past d (eventOf es c ∷ Q ++ B) ≡ true
     → (fired : List Fired) × Begins (outcome (after w (layOut n t ∷ xs)) c .list) (lentTo c) fired
     × List·Memᴰ (record { id = timer; routine = r; userData = u }) fired
 date-lists w n t ok xs c P Q id timer d r u accepted is quiet before moving there =
@@ -264,12 +264,12 @@ date-lists w n t ok xs c P Q id timer d r u accepted is quiet before moving ther
     let a = demand3 w n t ok (xs ++ (c ∷ [])) .answers xs [] c refl .lists accepted in
     let s = forDate timer d r u in
     let now : fires e (startAt P id s Q) ≡ true =
-    at-date P Q id timer d r u e ∙ ap₂ (λ (x y : Bool). (not x && not y) && (moves e && past d (e ∷ Q ++ (changes id (some s) ∷ P)))) quiet before
+    at-date P Q id timer d r u e ∙ ap₂ (λ (x y : Bool). (not x && not y) && (movesClock e && past d (e ∷ Q ++ (changes id (some s) ∷ P)))) quiet before
     ∙ ap₂ (λ (x y : Bool). x && y) moving there in (
       map entry (a .ticking ++ a .dated),
       a .entries,
       Memᴰ·map entry (Memᴰ·append-right (a .ticking) (fires-listed ByDate P Q id s e (a .dated) refl now
-          (subst (λ (l : List Event). InOrder left (keep (inChain ByDate) (keep (fires e) (starts l))) (a .dated)) is (a .dated-order)))),
+          (subst (λ (l : List Event). InOrder ticksLeftOrDate (keep (inChain ByDate) (keep (fires e) (starts l))) (a .dated)) is (a .dated-order)))),
     )
 
 -- Each entry that any accepted call writes is that of a start that is due there, was not due before and was not ended.
@@ -294,4 +294,4 @@ set-clock-keeps-ticks t ok w list e =
     let z : statusOn t (setClock w list) ≡ 0 = sym (outcome-status t (setClock w list)) ∙ e in
     let s = effect (read t) (setClock w list) .state in
     ap (λ (o : Outcome). links ByTicks (o .table)) (outcome-accepted t (setClock w list) z)
-    ∙ links-is (over s t) s (effect-holds t ok (setClock w list) z) ByTicks
+    ∙ links-is (writtenOver s t) s (effect-holds t ok (setClock w list) z) ByTicks

@@ -9,7 +9,7 @@ use lib.Dec.{leb}
 use borrow.Author.Tests.{leb-true, leb-false}
 use Rattle.model.specs.Kinds.{Chain, ByTicks, ByDate, Mode, kindAt, chainFor, sameChain, byTicks}
 use Rattle.model.specs.State.{Slot, Link, free, slotAt, putAt}
-use Rattle.model.specs.Directives.{unused, became, idled, intervalIn, waitingAs, fired, firedAll}
+use Rattle.model.specs.Directives.{neverStarted, became, idled, intervalIn, waitingAs, fired, firedAll}
 use Rattle.model.proofs.ListLaws.{cases, clash}
 use Rattle.model.proofs.KindLaws.{Alike, stopped-last, fired-last, stopped-alike, fired-alike, mode-kind, mode-last}
 use Rattle.model.proofs.Slots.{put-any}
@@ -26,8 +26,8 @@ free-shape = record {
   by-date = λ e. refl;
 }
 
-pub unused-shape : (name : ℕ) → 0 < name → Shape (unused name)
-unused-shape name p = record {
+pub never-started-shape : (name : ℕ) → 0 < name → Shape (neverStarted name)
+never-started-shape name p = record {
   kinds = omega arith;
   nameless = λ e. absurd (omega arith);
   named = λ q. p;
@@ -86,10 +86,10 @@ became-shape x n h a last = record {
     high-kind k n a p = cases (leb k 1) (λ e. omega (arith, a .low (leb-true k 1 e))) (λ e. leb-false k 1 e)
 
 pub idle-shape : (x : Slot) → Shape x → Shape (idled x)
-idle-shape x h = became-shape x (kindAt (x .kind) .stopped) h (stopped-alike (x .kind) (omega (arith, h .kinds))) (stopped-last (x .kind))
+idle-shape x h = became-shape x (kindAt (x .kind) .whenStopped) h (stopped-alike (x .kind) (omega (arith, h .kinds))) (stopped-last (x .kind))
 
 fired-shape : (x : Slot) → Shape x → Shape (fired x)
-fired-shape x h = became-shape x (kindAt (x .kind) .fired) h (fired-alike (x .kind) (omega (arith, h .kinds))) (fired-last (x .kind))
+fired-shape x h = became-shape x (kindAt (x .kind) .whenFired) h (fired-alike (x .kind) (omega (arith, h .kinds))) (fired-last (x .kind))
 
 pub shape-firedAll : (ws : List Link) (slots : List Slot) → ((j : ℕ) → Shape (slotAt slots j)) → (j : ℕ) → Shape (slotAt (firedAll ws slots) j)
 shape-firedAll [] slots h j = h j

@@ -19,7 +19,7 @@ use Rattle.model.proofs.ListLaws.{cases, clash, all, all-map, all-passe
 use Rattle.model.proofs.KindLaws.{own-chain, mode-last}
 use Rattle.model.proofs.Slots.{at-same, at-other, field-put, Memo, memo, put-any, put-at, blank}
 use Rattle.model.proofs.Shapes.{Some}
-use Rattle.model.proofs.Steps.{rechain-slots, rechain-clock, rechained, stored-chain, stopped-chain, laid-chain}
+use Rattle.model.proofs.Steps.{with-chain-slots, with-chain-clock, with-chain-each, stored-chain, stopped-chain, laid-chain}
 use Rattle.model.proofs.HistoryLaws.{Sized, chainFrom, sized-more}
 use Rattle.model.proofs.ChainLaws.{bringsDue, begins, chain-calm, chain-start, chain-elsewhere}
 use Rattle.model.proofs.ClockLaws.{standing}
@@ -221,11 +221,11 @@ module _ (s : State) (h : List Event) (v : Agrees s h) (id i : ℕ) (is : id ≡
     pub on-start : Agrees (started m s i amount r u) (changes id (some (startOf id m amount r u)) ∷ h)
     on-start = record {
       sized = sized-more h e (v .sized) (some-amount, tt);
-      chain = simp rechain-slots (rechained (stopped s i x) (putAt (s .slots) i x) (place (λ w. w .wait) new (chainOf (chainFor m) (stopped s i x)))
+      chain = simp with-chain-slots (with-chain-each (stopped s i x) (putAt (s .slots) i x) (place (λ w. w .wait) new (chainOf (chainFor m) (stopped s i x)))
           (λ j l. map (shown (putAt (s .slots) i x)) l ≡ chainFrom j (e ∷ h)) (chainFor m) (rw (stopped-chain s i x (chainFor m)) own) off);
-      memory = λ j. simp rechain-slots (remember j);
-      per = simp rechain-clock (v .per);
-      clock = simp rechain-clock (v .clock);
+      memory = λ j. simp with-chain-slots (remember j);
+      per = simp with-chain-clock (v .per);
+      clock = simp with-chain-clock (v .clock);
     }
       where
         remember : (j : ℕ) → Remembers (e ∷ h) j (memo (slotAt (putAt (s .slots) i x) j))

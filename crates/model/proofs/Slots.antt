@@ -91,10 +91,10 @@ memo-became : (n : ℕ) (x : Slot) → kindAt n .last ≡ kindAt (x .kind) .last
 memo-became n x e = ap (λ (o : Option Mode). record { last = o; interval = x .interval; routine = x .routine; userData = x .userData }) e
 
 pub memo-idled : (x : Slot) → memo (idled x) ≡ memo x
-memo-idled x = memo-became (kindAt (x .kind) .stopped) x (stopped-last (x .kind))
+memo-idled x = memo-became (kindAt (x .kind) .whenStopped) x (stopped-last (x .kind))
 
 pub memo-fired : (x : Slot) → memo (fired x) ≡ memo x
-memo-fired x = memo-became (kindAt (x .kind) .fired) x (fired-last (x .kind))
+memo-fired x = memo-became (kindAt (x .kind) .whenFired) x (fired-last (x .kind))
 
 pub memo-firedAll : (ws : List Link) (sl : List Slot) (j : ℕ) → memo (slotAt (firedAll ws sl) j) ≡ memo (slotAt sl j)
 memo-firedAll [] sl j = refl

@@ -10,7 +10,7 @@ use lib.Dec.{leb, ltb, eqb}
 use borrow.Author.Tests.{eqb-false, eq-eqb, ne-eqb, not-true}
 use Rattle.model.specs.Lists.{keep, place, All, Sorted}
 use Rattle.model.specs.Kinds.{Chain, ByTicks, ByDate, Mode, chainFor, sameChain, waitsIn}
-use Rattle.model.specs.State.{Slot, Link, Clock, State, chainOf, rechain, reclock, free, slotAt, putAt, without}
+use Rattle.model.specs.State.{Slot, Link, Clock, State, chainOf, withChain, withClock, free, slotAt, putAt, without}
 use Rattle.model.specs.Directives.{laidOut, stored, stopped, intervalIn, waitingAs, started, firedAll, due, fire, closer, nearer}
 use Rattle.model.proofs.ListLaws.{cases, clash, all-map, all-keep, all-passed, all-zip, all-place, all-mapped, sorted-place, not-leb, count-place, any-some, any-none, sorted-keep, count-parts}
 use Rattle.model.proofs.Slots.{at-same, at-other, length-put, put-at, blank, memo-firedAll, length-firedAll}
@@ -40,34 +40,34 @@ chained s few o = record { few = few; meets = λ k. o k .meets; rises = λ k. o 
 
 module _ (s : State) (slots : List Slot) (l : List Link) where
   -- what is read of a state with one chain replaced
-  pub rechain-slots : (k : Chain) → rechain k s slots l .slots ≡ slots
-  rechain-slots ByTicks = refl
-  rechain-slots ByDate = refl
+  pub with-chain-slots : (k : Chain) → withChain k s slots l .slots ≡ slots
+  with-chain-slots ByTicks = refl
+  with-chain-slots ByDate = refl
 
-  pub rechain-clock : (k : Chain) → rechain k s slots l .clock ≡ s .clock
-  rechain-clock ByTicks = refl
-  rechain-clock ByDate = refl
+  pub with-chain-clock : (k : Chain) → withChain k s slots l .clock ≡ s .clock
+  with-chain-clock ByTicks = refl
+  with-chain-clock ByDate = refl
 
-  pub rechain-own : (k : Chain) → chainOf k (rechain k s slots l) ≡ l
-  rechain-own ByTicks = refl
-  rechain-own ByDate = refl
+  pub with-chain-own : (k : Chain) → chainOf k (withChain k s slots l) ≡ l
+  with-chain-own ByTicks = refl
+  with-chain-own ByDate = refl
 
-  pub rechain-apart : (k j : Chain) → sameChain j k ≡ false → chainOf j (rechain k s slots l) ≡ chainOf j s
-  rechain-apart ByTicks ByTicks e = clash e
-  rechain-apart ByTicks ByDate e = refl
-  rechain-apart ByDate ByTicks e = refl
-  rechain-apart ByDate ByDate e = clash e
+  pub with-chain-apart : (k j : Chain) → sameChain j k ≡ false → chainOf j (withChain k s slots l) ≡ chainOf j s
+  with-chain-apart ByTicks ByTicks e = clash e
+  with-chain-apart ByTicks ByDate e = refl
+  with-chain-apart ByDate ByTicks e = refl
+  with-chain-apart ByDate ByDate e = clash e
 
   -- what holds of every chain of it
-  pub rechained : (P : Chain → List Link → Type 0) (k : Chain) → P k l → ((j : Chain) → sameChain j k ≡ false → P j (chainOf j s))
-      → (j : Chain) → P j (chainOf j (rechain k s slots l))
-  rechained P k own rest =
-      each-chain (λ j. P j (chainOf j (rechain k s slots l))) k (rw (rechain-own k) own) (λ j e. rw (rechain-apart k j e) (rest j e))
+  pub with-chain-each : (P : Chain → List Link → Type 0) (k : Chain) → P k l → ((j : Chain) → sameChain j k ≡ false → P j (chainOf j s))
+      → (j : Chain) → P j (chainOf j (withChain k s slots l))
+  with-chain-each P k own rest =
+      each-chain (λ j. P j (chainOf j (withChain k s slots l))) k (rw (with-chain-own k) own) (λ j e. rw (with-chain-apart k j e) (rest j e))
 
-  chained-rechain : (k : Chain) → length slots ≤ 255 → Ordered k slots l → ((j : Chain) → sameChain j k ≡ false → Ordered j slots (chainOf j s))
-      → Chained (rechain k s slots l)
-  chained-rechain k few own rest =
-      chained (rechain k s slots l) (rw (rechain-slots k) few) (rw (rechain-slots k) (rechained (λ j. Ordered j slots) k own rest))
+  chained-with-chain : (k : Chain) → length slots ≤ 255 → Ordered k slots l → ((j : Chain) → sameChain j k ≡ false → Ordered j slots (chainOf j s))
+      → Chained (withChain k s slots l)
+  chained-with-chain k few own rest =
+      chained (withChain k s slots l) (rw (with-chain-slots k) few) (rw (with-chain-slots k) (with-chain-each (λ j. Ordered j slots) k own rest))
 
 -- ---- what keeps one chain in order
 
@@ -171,7 +171,7 @@ module _ (m : Mode) (s : State) where
       let k = chainFor m in
       let x : Slot = waitingAs m (slotAt (s .slots) i) amount r u in
       rw (stopped-chain s i x k) (
-      chained-rechain (stopped s i x) (putAt (s .slots) i x) (place (λ w. w .wait) (record { slot = i; wait = amount }) (without i (chainOf k s))) k
+      chained-with-chain (stopped s i x) (putAt (s .slots) i x) (place (λ w. w .wait) (record { slot = i; wait = amount }) (without i (chainOf k s))) k
       (few-put s h i x low high)
       (ordered-place k (s .slots) (chainOf k s) (ordered s h k) i amount x low high (mode-in m k ∙ own-chain k) (fits k))
       (λ j e. ordered-stopped s h i x low high j (mode-in m j ∙ e)))
@@ -181,17 +181,17 @@ module _ (m : Mode) (s : State) where
       fits ByDate = tt
 
   pub length-started : (i amount r u : ℕ) → length (started m s i amount r u .slots) ≡ length (s .slots)
-  length-started i amount r u = simp (rechain-slots, length-put)
+  length-started i amount r u = simp (with-chain-slots, length-put)
 
 -- ---- fired, a tick nearer, at another time, laid out
 
-pub reclock-chain : (s : State) (c : Clock) (k : Chain) → chainOf k (reclock s c) ≡ chainOf k s
-reclock-chain s c ByTicks = refl
-reclock-chain s c ByDate = refl
+pub with-clock-chain : (s : State) (c : Clock) (k : Chain) → chainOf k (withClock s c) ≡ chainOf k s
+with-clock-chain s c ByTicks = refl
+with-clock-chain s c ByDate = refl
 
 module _ (k : Chain) (limit : ℕ) (s : State) where
   pub length-fire : length (fire k limit s .slots) ≡ length (s .slots)
-  length-fire = simp (rechain-slots, length-firedAll)
+  length-fire = simp (with-chain-slots, length-firedAll)
 
   -- the timers that are due, and those that are not, are the chain
   due-parts : (j : ℕ) → timesIn (due k limit s) j + timesIn (keep (λ w. ltb limit (w .wait)) (chainOf k s)) j ≡ timesIn (chainOf k s) j
@@ -203,7 +203,7 @@ module _ (k : Chain) (limit : ℕ) (s : State) where
       let later : Link → Bool = λ w. ltb limit (w .wait) in
       let own = ordered s h k in
       let one : (j : ℕ) → timesIn ws j ≤ 1 = λ j. omega (arith, due-parts j, once s h k j) in
-      chained-rechain s (firedAll ws (s .slots)) (keep later (chainOf k s)) k
+      chained-with-chain s (firedAll ws (s .slots)) (keep later (chainOf k s)) k
       (omega (arith, length-firedAll ws (s .slots), h .few))
       (ordered-fired k (s .slots) (chainOf k s) own ws (keep later (chainOf k s)) one
       (λ j e. omega (arith, any-some (λ w. eqb (w .slot) j) ws e, due-parts j, once s h k j))
@@ -218,15 +218,15 @@ module _ (k : Chain) (limit : ℕ) (s : State) where
 
 pub chained-nearer : (s : State) → Chained s → Chained (nearer s)
 chained-nearer s h =
-    chained-rechain s (s .slots) (map closer (s .ticking)) ByTicks (h .few) (ordered-nearer (s .slots) (s .ticking) (ordered s h ByTicks))
+    chained-with-chain s (s .slots) (map closer (s .ticking)) ByTicks (h .few) (ordered-nearer (s .slots) (s .ticking) (ordered s h ByTicks))
     (λ j _. ordered s h j)
 
-pub chained-reclock : (s : State) (c : Clock) → Chained s → Chained (reclock s c)
-chained-reclock s c h = record {
+pub chained-with-clock : (s : State) (c : Clock) → Chained s → Chained (withClock s c)
+chained-with-clock s c h = record {
   few = h .few;
-  meets = λ k. rw (reclock-chain s c k) (h .meets k);
-  rises = λ k. rw (reclock-chain s c k) (h .rises k);
-  within = λ k. rw (reclock-chain s c k) (h .within k);
+  meets = λ k. rw (with-clock-chain s c k) (h .meets k);
+  rises = λ k. rw (with-clock-chain s c k) (h .rises k);
+  within = λ k. rw (with-clock-chain s c k) (h .within k);
 }
 
 module _ (n t : ℕ) where

@@ -9,7 +9,7 @@ use Rattle.model.specs.Lists.{count, All, Sorted}
 use Rattle.model.specs.Kinds.{Chain, ByTicks, ByDate, waitsIn, lastByTicks}
 use Rattle.model.specs.State.{Slot, Link, State, chainOf, slotAt}
 use Rattle.calendar.specs.Calendar.{lastSecond}
-use Rattle.model.specs.Words.{over}
+use Rattle.model.specs.Words.{writtenOver}
 
 -- how often the slot i stands in a chain
 abbrev pub timesIn : List Link → ℕ → ℕ
@@ -55,6 +55,6 @@ pub record WellFormed (s : State) : Type 0 where
 
 -- the words of t are those of s, and the chains of s are in order
 pub record Holds (t : List ℕ) (s : State) : Type 0 where
-  pub is : over s t ≡ t
+  pub is : writtenOver s t ≡ t
   pub long : 10 + 8 * length (s .slots) ≤ length t
   pub chained : Chained s

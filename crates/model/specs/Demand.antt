@@ -11,10 +11,10 @@ use Rattle.model.specs.Lists.{keep, count, InOrder}
 use Rattle.model.specs.Calls.{Call, layOut, create, cancel, reset, tick, setClock, lentTo, answerCount}
 use Rattle.model.specs.Kinds.{Chain, ByTicks, ByDate, kindAt, chainFor}
 use Rattle.model.specs.State.{Slot, Link, slotAt, indexOf, names, Fired, listed}
-use Rattle.model.specs.Words.{first, sumOf, word, field, along, links, read}
+use Rattle.model.specs.Words.{first, sumOf, word, along, links, read, slotCount, ticksPerSecond, clockSet, seconds, ticksInto, previousOf}
 use Rattle.model.specs.Sound.{sound}
 use Rattle.model.specs.Outcome.{outcome}
-use Rattle.model.specs.History.{Start, Event, changes, lastsAfter, Placed, Waiting, eventOf, eventsOn, perSecond, clockAfter, moves, starts, waits, fires, inChain, left, waiting, entry}
+use Rattle.model.specs.History.{Start, Event, changes, lastsAfter, Placed, Waiting, eventOf, eventsOn, perSecond, clockAfter, movesClock, starts, waits, fires, inChain, ticksLeftOrDate, waiting, entry}
 
 -- Each call gets the table that the last one left.
 abbrev pub after : List ℕ → List Call → List ℕ
@@ -37,15 +37,15 @@ pub record Standing (t : List ℕ) (es : List Event) : Type 0 where
   pub is-sound : sound t ≡ true
   -- Each chain gives its own waiting timers in firing order by next from word 5 or 6, the earlier start first among equals,
   -- with their ticks left or dates, and the interval, routine and data of their starts; and nothing else.
-  pub by-next : (k : Chain) → (l : List Placed) × InOrder left (keep (inChain k) (keep waits (starts es))) l
+  pub by-next : (k : Chain) → (l : List Placed) × InOrder ticksLeftOrDate (keep (inChain k) (keep waits (starts es))) l
       × (map (shown (read t .slots)) (links k t) ≡ map waiting l)
   -- The same in reverse by previous from its last slot.
-  pub by-previous : (k : Chain) → along (field t 7) (word t 0) (first (reverse (links k t))) ≡ map (λ w. w .slot) (reverse (links k t))
+  pub by-previous : (k : Chain) → along (previousOf t) (slotCount t) (first (reverse (links k t))) ≡ map (λ w. w .slot) (reverse (links k t))
   -- Each waiting timer stands there once.
   pub once : (i : ℕ) → sumOf (λ _ c. count (λ w. eqb (w .slot) i) c) (read t) ≤ 1
   -- The table's T and its clock, counted in ticks, are those of the events; it is unset where theirs is.
-  pub rate : perSecond es ≡ word t 1
-  pub clock : clockAfter 0 es ≡ cond (eqb (word t 2) 1) (some (word t 3 * word t 1 + word t 4)) none
+  pub rate : perSecond es ≡ ticksPerSecond t
+  pub clock : clockAfter 0 es ≡ cond (eqb (clockSet t) 1) (some (seconds t * ticksPerSecond t + ticksInto t)) none
 
 -- entry number i of a list, three words each: id, then routine and data
 pub record EntryAt (list : List ℕ) (i : ℕ) (f : Fired) : Type 0 where
@@ -65,12 +65,12 @@ pub record Begins (list lent : List ℕ) (fs : List Fired) : Type 0 where
 pub record Lists (t : List ℕ) (es : List Event) (c : Call) (e : Event) : Type 0 where
   pub ticking : List Placed
   pub dated : List Placed
-  pub ticking-order : InOrder left (keep (inChain ByTicks) (keep (fires e) (starts es))) ticking
-  pub dated-order : InOrder left (keep (inChain ByDate) (keep (fires e) (starts es))) dated
+  pub ticking-order : InOrder ticksLeftOrDate (keep (inChain ByTicks) (keep (fires e) (starts es))) ticking
+  pub dated-order : InOrder ticksLeftOrDate (keep (inChain ByDate) (keep (fires e) (starts es))) dated
   pub entries : Begins (outcome t c .list) (lentTo c) (map entry (ticking ++ dated))
-  pub counted : moves e ≡ true → outcome t c .answer ≡ length (ticking ++ dated) ∷ []
-  pub quiet : moves e ≡ false → ticking ++ dated ≡ []
-  pub few : length (ticking ++ dated) ≤ word t 0
+  pub counted : movesClock e ≡ true → outcome t c .answer ≡ length (ticking ++ dated) ∷ []
+  pub fires-none : movesClock e ≡ false → ticking ++ dated ≡ []
+  pub few : length (ticking ++ dated) ≤ slotCount t
 
 -- the first number of an answer
 abbrev pub firstNumber : List ℕ → ℕ
@@ -94,7 +94,7 @@ pub record Answers (t : List ℕ) (es : List Event) (c : Call) (e : Event) : Typ
   pub anew : (name : ℕ) → c ≡ create name → outcome t c .status ≡ 0 → names (read t) (firstNumber (outcome t c .answer)) ≡ false
   -- Words past 10 + 8N are never changed.
   pub size : length (outcome t c .table) ≡ length t
-  pub beyond : (m : ℕ) → 10 + 8 * word (outcome t c .table) 0 ≤ m → word (outcome t c .table) m ≡ word t m
+  pub beyond : (m : ℕ) → 10 + 8 * slotCount (outcome t c .table) ≤ m → word (outcome t c .table) m ≡ word t m
   -- A refused call changes no word of the table or of the list that it was lent, and answers zero.
   pub refuses : (outcome t c .status ≡ 0 → ⊥)
       → (outcome t c .table ≡ t) × (outcome t c .list ≡ lentTo c) × (outcome t c .answer ≡ replicate (answerCount c) 0)

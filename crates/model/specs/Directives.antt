@@ -12,7 +12,7 @@ use Rattle.model.specs.Status.{Refusal, when, InvalidName, InvalidId, To
 use Rattle.model.specs.Calls.{Call, layOut, create, ident, cancel, delete, fireAfter, fireWhen, reset, ticksLeft, tick, setClock, getClock}
 use Rattle.model.specs.Kinds.{Chain, ByTicks, ByDate, Mode, After, When, kindAt, chainFor, waitingKind, lastByTicks, lastMode}
 use Rattle.model.specs.Sound.{sound}
-use Rattle.model.specs.State.{Slot, Link, Clock, State, chainOf, rechain, reclock, free, slotAt, putAt, lowest, without, waitAt, idBase, indexOf, names}
+use Rattle.model.specs.State.{Slot, Link, Clock, State, chainOf, withChain, withClock, free, slotAt, putAt, lowest, without, waitAt, idBase, indexOf, names}
 
 -- ---- what the rules test
 
@@ -38,8 +38,8 @@ limits n t = leb 1 n ∷ leb n 255 ∷ leb 1 t ∷ leb t 1000 ∷ []
 abbrev pub unsound : List ℕ → Refusal
 unsound t = when NotSound (not (sound t))
 
-abbrev pub nameless : State → ℕ → Refusal
-nameless s id = when InvalidId (not (names s id))
+abbrev pub noSuchId : State → ℕ → Refusal
+noSuchId s id = when InvalidId (not (names s id))
 
 -- ---- the parts of the calls' work
 
@@ -51,17 +51,17 @@ laidOut n t =
 
 -- slot i, in no chain, becomes x
 abbrev pub stored : State → ℕ → Slot → State
-stored s i x = rechain ByTicks s (putAt (s .slots) i x) (s .ticking)
+stored s i x = withChain ByTicks s (putAt (s .slots) i x) (s .ticking)
 
 -- Create: the slot becomes kind 1.
-abbrev pub unused : ℕ → Slot
-unused name = record { kind = 1; name = name; interval = 0; routine = 0; userData = 0 }
+abbrev pub neverStarted : ℕ → Slot
+neverStarted name = record { kind = 1; name = name; interval = 0; routine = 0; userData = 0 }
 
 -- slot i becomes x and waits no more
 abbrev pub stopped : State → ℕ → Slot → State
 stopped s i x =
     let slots = putAt (s .slots) i x in
-    rechain ByTicks (rechain ByDate s slots (without i (s .dated))) slots (without i (s .ticking))
+    withChain ByTicks (withChain ByDate s slots (without i (s .dated))) slots (without i (s .ticking))
 
 -- the slot with another kind
 abbrev pub became : ℕ → Slot → Slot
@@ -70,11 +70,11 @@ became kind x = record { kind = kind; name = x .name; interval = x .interval; ro
 -- Cancel: a waiting timer becomes idle of its own kind. One that isn't waiting stays as it is. (Its follower takes over its wait since the other
 -- links keep their ticks left, and a wait is the difference of two: `Words`.)
 abbrev pub idled : Slot → Slot
-idled x = became (kindAt (x .kind) .stopped) x
+idled x = became (kindAt (x .kind) .whenStopped) x
 
 -- It goes behind every timer due at the same tick, or date.
-abbrev pub joined : Chain → State → ℕ → ℕ → State
-joined k s i wait = rechain k s (s .slots) (place (λ w. w .wait) (record { slot = i; wait = wait }) (chainOf k s))
+abbrev pub inserted : Chain → State → ℕ → ℕ → State
+inserted k s i wait = withChain k s (s .slots) (place (λ w. w .wait) (record { slot = i; wait = wait }) (chainOf k s))
 
 -- the interval of a start: its ticks, 0 for one by date
 abbrev pub intervalIn : Chain → ℕ → ℕ
@@ -89,11 +89,11 @@ waitingAs m x amount routine userData =
 -- Fire after, fire when: cancelled if waiting, then waits.
 abbrev pub started : Mode → State → ℕ → ℕ → ℕ → ℕ → State
 started m s i amount routine userData =
-    joined (chainFor m) (stopped s i (waitingAs m (slotAt (s .slots) i) amount routine userData)) i amount
+    inserted (chainFor m) (stopped s i (waitingAs m (slotAt (s .slots) i) amount routine userData)) i amount
 
 -- A fired timer becomes idle of its kind.
 abbrev pub fired : Slot → Slot
-fired x = became (kindAt (x .kind) .fired) x
+fired x = became (kindAt (x .kind) .whenFired) x
 
 abbrev pub firedAll : List Link → List Slot → List Slot
 firedAll [] slots = slots
@@ -104,14 +104,14 @@ abbrev pub due : Chain → ℕ → State → List Link
 due k limit s = keep (λ w. leb (w .wait) limit) (chainOf k s)
 
 abbrev pub fire : Chain → ℕ → State → State
-fire k limit s = rechain k s (firedAll (due k limit s) (s .slots)) (keep (λ w. ltb limit (w .wait)) (chainOf k s))
+fire k limit s = withChain k s (firedAll (due k limit s) (s .slots)) (keep (λ w. ltb limit (w .wait)) (chainOf k s))
 
 -- Tick: every interval timer comes one tick nearer.
 abbrev pub closer : Link → Link
 closer w = record { slot = w .slot; wait = w .wait - 1 }
 
 abbrev pub nearer : State → State
-nearer s = rechain ByTicks s (s .slots) (map closer (s .ticking))
+nearer s = withChain ByTicks s (s .slots) (map closer (s .ticking))
 
 -- the clock set to a second, so many ticks into it
 abbrev pub clockAt : Clock → ℕ → ℕ → Clock
@@ -146,21 +146,21 @@ abbrev pub ticked : State → Effect
 ticked s =
     let near = nearer s in
     let clock = clockStep (s .clock) in
-    let later = reclock (fire ByTicks 0 near) clock in
+    let later = withClock (fire ByTicks 0 near) clock in
     firing (fire ByDate (clock .second) later) (due ByTicks 0 near ++ due ByDate (clock .second) later)
 
 -- Set clock: seconds as given, word 4 to 0, clock set. Dated timers at or before the new second fire now. Interval timers don't change. A clock
 -- set back moves no date.
 abbrev pub clockMoved : State → ℕ → Effect
 clockMoved s second =
-    let now = reclock s (clockAt (s .clock) second 0) in firing (fire ByDate second now) (due ByDate second now)
+    let now = withClock s (clockAt (s .clock) second 0) in firing (fire ByDate second now) (due ByDate second now)
 
 -- Get clock gives the date and, in ticks, word 4.
 abbrev pub numbers : WallTime → ℕ → List ℕ
 numbers w ticks = w .year ∷ w .month ∷ w .day ∷ w .hour ∷ w .minute ∷ w .second ∷ ticks ∷ []
 
-abbrev pub reading : State → Effect
-reading s = record { state = s; answer = numbers (dateOf (s .clock .second)) (s .clock .ticksInto); fired = [] }
+abbrev pub clockRead : State → Effect
+clockRead s = record { state = s; answer = numbers (dateOf (s .clock .second)) (s .clock .ticksInto); fired = [] }
 
 -- ---- the calls
 
@@ -178,7 +178,7 @@ directive (layOut n t) = record {
 -- Answers the id of the lowest free slot, which becomes kind 1. 3, 5
 directive (create name) = record {
   rules = λ w s. unsound w ∷ when InvalidName (eqb name 0) ∷ when TooMany (eqb (lowestFree s) 0) ∷ [];
-  does = λ s. leaves (stored s (lowestFree s) (unused name)) (idBase + lowestFree s);
+  does = λ s. leaves (stored s (lowestFree s) (neverStarted name)) (idBase + lowestFree s);
 }
 -- Id of the lowest slot with that name. 3
 directive (ident name) = record {
@@ -186,35 +186,35 @@ directive (ident name) = record {
   does = λ s. leaves s (idBase + lowestNamed s name);
 }
 directive (cancel id) = record {
-  rules = λ w s. unsound w ∷ nameless s id ∷ [];
+  rules = λ w s. unsound w ∷ noSuchId s id ∷ [];
   does = λ s. leaves (stopped s (indexOf id) (idled (slotAt (s .slots) (indexOf id)))) 0;
 }
 -- Cancelled if waiting, then the slot is free and all zero.
 directive (delete id) = record {
-  rules = λ w s. unsound w ∷ nameless s id ∷ [];
+  rules = λ w s. unsound w ∷ noSuchId s id ∷ [];
   does = λ s. leaves (stopped s (indexOf id) free) 0;
 }
 -- 10, 9, 4
 directive (fireAfter id n r u) = record {
-  rules = λ w s. unsound w ∷ when InvalidNumber (eqb n 0) ∷ when InvalidAddress (eqb r 0) ∷ nameless s id ∷ [];
+  rules = λ w s. unsound w ∷ when InvalidNumber (eqb n 0) ∷ when InvalidAddress (eqb r 0) ∷ noSuchId s id ∷ [];
   does = λ s. leaves (started After s (indexOf id) n r u) 0;
 }
 -- 11, 9, 20, 4
 directive (fireWhen id d r u) = record {
   rules = λ w s. unsound w ∷ when NotDefined (not (s .clock .isSet)) ∷ when InvalidAddress (eqb r 0) ∷ when InvalidClock (notAhead s d)
-      ∷ nameless s id ∷ [];
+      ∷ noSuchId s id ∷ [];
   does = λ s. leaves (started When s (indexOf id) (secondsOf d) r u) 0;
 }
 -- Start again with the stored interval, routine and data, as fire after would. 4, 11
 directive (reset id) = record {
-  rules = λ w s. unsound w ∷ nameless s id ∷ when NotDefined (not (lastByTicks (slotAt (s .slots) (indexOf id) .kind))) ∷ [];
+  rules = λ w s. unsound w ∷ noSuchId s id ∷ when NotDefined (not (lastByTicks (slotAt (s .slots) (indexOf id) .kind))) ∷ [];
   does = λ s.
       let x = slotAt (s .slots) (indexOf id) in
       leaves (started (lastMode (x .kind)) s (indexOf id) (x .interval) (x .routine) (x .userData)) 0;
 }
 -- For kind 4, which alone is in the interval chain; for any other kind 0.
 directive (ticksLeft id) = record {
-  rules = λ w s. unsound w ∷ nameless s id ∷ [];
+  rules = λ w s. unsound w ∷ noSuchId s id ∷ [];
   does = λ s. leaves s (waitAt (indexOf id) (s .ticking));
 }
 directive (tick list) = record {
@@ -227,7 +227,7 @@ directive (setClock d list) = record {
 }
 directive getClock = record {
   rules = λ w s. unsound w ∷ when NotDefined (not (s .clock .isSet)) ∷ [];
-  does = λ s. reading s;
+  does = λ s. clockRead s;
 }
 
 -- a call's rules, and what it does

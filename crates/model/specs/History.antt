@@ -136,13 +136,13 @@ abbrev pub past : ℕ → List Event → Bool
 past date before = atLeast (date * perSecond before) (clockAfter 0 before)
 
 -- an accepted tick or set clock
-abbrev pub moves : Event → Bool
-moves (laidOutFor t) = false
-moves (changes i s) = false
-moves (deletes i) = false
-moves oneTick = true
-moves (clockSetTo d) = true
-moves nothing = false
+abbrev pub movesClock : Event → Bool
+movesClock (laidOutFor t) = false
+movesClock (changes i s) = false
+movesClock (deletes i) = false
+movesClock oneTick = true
+movesClock (clockSetTo d) = true
+movesClock nothing = false
 
 -- ---- starts
 
@@ -153,8 +153,8 @@ pub record Placed : Type 0 where
   pub after : List Event
 
 -- the start, with one event more after it
-abbrev pub also : Event → Placed → Placed
-also e g = record { begun = g .begun; before = g .before; after = e ∷ g .after }
+abbrev pub withEvent : Event → Placed → Placed
+withEvent e g = record { begun = g .begun; before = g .before; after = e ∷ g .after }
 
 abbrev pub placed : Option Start → List Event → List Placed
 placed none before = []
@@ -163,7 +163,7 @@ placed (some s) before = record { begun = s; before = before; after = [] } ∷ [
 -- every start of the events, in order
 abbrev pub starts : List Event → List Placed
 starts [] = []
-starts (e ∷ before) = map (also e) (starts before) ++ placed (startIn e) (e ∷ before)
+starts (e ∷ before) = map (withEvent e) (starts before) ++ placed (startIn e) (e ∷ before)
 
 -- An accepted cancel, reset, new start or delete of that timer or an accepted lay out ends a start early.
 abbrev pub ends : ℕ → Event → Bool
@@ -181,7 +181,7 @@ wasEnded g = any (ends (g .begun .id)) (g .after)
 -- that leaves the clock at or past the date. (It is due in the event e, which comes after `after`; the first, since it ends there.)
 abbrev pub dueIn : Mode → ℕ → Event → List Event → List Event → Bool
 dueIn After n e before after = isTick e && eqb (suc (ticks after)) n
-dueIn When d e before after = moves e && past d (e ∷ after ++ before)
+dueIn When d e before after = movesClock e && past d (e ∷ after ++ before)
 
 abbrev pub isDue : Event → Placed → Bool
 isDue e g = dueIn (g .begun .mode) (g .begun .amount) e (g .before) (g .after)
@@ -213,8 +213,8 @@ abbrev pub remaining : Mode → ℕ → ℕ → ℕ
 remaining After n ticksAfter = n - ticksAfter
 remaining When d ticksAfter = d
 
-abbrev pub left : Placed → ℕ
-left g = remaining (g .begun .mode) (g .begun .amount) (ticks (g .after))
+abbrev pub ticksLeftOrDate : Placed → ℕ
+ticksLeftOrDate g = remaining (g .begun .mode) (g .begun .amount) (ticks (g .after))
 
 -- each as id, then routine and data of its start
 abbrev pub entry : Placed → Fired
@@ -232,5 +232,5 @@ waiting g = record {
   shows = entry g;
   mode = some (g .begun .mode);
   interval = intervalIn (chainFor (g .begun .mode)) (g .begun .amount);
-  wait = left g;
+  wait = ticksLeftOrDate g;
 }

@@ -12,27 +12,27 @@ pub use Rattle.model.specs.declared.Mode.the-variants.{After, When}
 -- what a kind says of a timer: the chain that it is in, if any; its kind when it stops, and when it fires; how it was last started, if it was
 pub record Kind : Type 0 where
   pub chain : Option Chain
-  pub stopped : ℕ
-  pub fired : ℕ
+  pub whenStopped : ℕ
+  pub whenFired : ℕ
   pub last : Option Mode
 
-abbrev pub is : Option Chain → ℕ → ℕ → Option Mode → Kind
-is chain stopped fired last = record { chain = chain; stopped = stopped; fired = fired; last = last }
+abbrev pub kindEntry : Option Chain → ℕ → ℕ → Option Mode → Kind
+kindEntry chain stopped fired last = record { chain = chain; whenStopped = stopped; whenFired = fired; last = last }
 
 -- the kinds from 0 on
 abbrev pub kinds : List Kind
 kinds =
     -- 0 free; 1 never started
-    is none 0 0 none ∷ is none 1 1 none
+    kindEntry none 0 0 none ∷ kindEntry none 1 1 none
     -- 2 idle, last started by interval; 3 idle, last started by date
-    ∷ is none 2 2 (some After) ∷ is none 3 3 (some When)
+    ∷ kindEntry none 2 2 (some After) ∷ kindEntry none 3 3 (some When)
     -- 4 waiting for ticks; 5 waiting for a date
-    ∷ is (some ByTicks) 2 2 (some After) ∷ is (some ByDate) 3 3 (some When)
+    ∷ kindEntry (some ByTicks) 2 2 (some After) ∷ kindEntry (some ByDate) 3 3 (some When)
     ∷ []
 
 -- what a kind says; a number that is no kind is in no chain and stays
 abbrev pub kindAt : ℕ → Kind
-kindAt kind = getD kinds kind (is none kind kind none)
+kindAt kind = getD kinds kind (kindEntry none kind kind none)
 
 -- the chain in which a start waits, and the kind that it gives
 abbrev pub chainFor : Mode → Chain
@@ -63,8 +63,8 @@ abbrev pub isSome : Option Chain → Bool
 isSome none = false
 isSome (some j) = true
 
-abbrev pub waits : ℕ → Bool
-waits kind = isSome (kindAt kind .chain)
+abbrev pub linked : ℕ → Bool
+linked kind = isSome (kindAt kind .chain)
 
 -- the timer was last started by interval
 abbrev pub byTicks : Option Mode → Bool
@@ -75,9 +75,9 @@ abbrev pub lastByTicks : ℕ → Bool
 lastByTicks kind = byTicks (kindAt kind .last)
 
 -- how it was last started, where it was
-abbrev pub orAfter : Option Mode → Mode
-orAfter none = After
-orAfter (some m) = m
+abbrev pub modeOrAfter : Option Mode → Mode
+modeOrAfter none = After
+modeOrAfter (some m) = m
 
 abbrev pub lastMode : ℕ → Mode
-lastMode kind = orAfter (kindAt kind .last)
+lastMode kind = modeOrAfter (kindAt kind .last)

@@ -9,7 +9,7 @@ use Rattle.model.specs.Status.{firstOf}
 use Rattle.model.specs.Calls.{Call, lentTo, answerCount}
 use Rattle.model.specs.State.{Fired, listed}
 use Rattle.model.specs.Directives.{refusals, effect}
-use Rattle.model.specs.Words.{over, read}
+use Rattle.model.specs.Words.{writtenOver, read}
 
 -- what comes of a call
 pub record Outcome : Type 0 where
@@ -42,7 +42,7 @@ written fs list = entryWords fs ++ drop (length (entryWords fs)) list
 abbrev pub accepted : List ℕ → Call → Outcome
 accepted t c =
     let e = effect (read t) c in
-    outcomeOf 0 (e .answer) (over (e .state) t) (written (map (listed (read t .slots)) (e .fired)) (lentTo c))
+    outcomeOf 0 (e .answer) (writtenOver (e .state) t) (written (map (listed (read t .slots)) (e .fired)) (lentTo c))
 
 -- Accepted means status 0; any other status is a refusal.
 unfoldable pub outcome : List ℕ → Call → Outcome

@@ -9,7 +9,7 @@ use Rattle.model.specs.Words.{field, read}
 -- the lowest of m slots from i on whose word f is v; 0 if there is none
 unfoldable pub lowestWith : List ℕ → ℕ → ℕ → ℕ → ℕ → ℕ
 lowestWith t f v i zero = 0
-lowestWith t f v i (suc m) = cond (eqb (field t f i) v) i (lowestWith t f v (suc i) m)
+lowestWith t f v i (suc m) = cond (eqb (field t i f) v) i (lowestWith t f v (suc i) m)
 
 -- the lowest slot, of those from i to n, whose word f is v; 0 if there is none
 unfoldable pub lowestIn : List ℕ → ℕ → ℕ → ℕ → ℕ → ℕ

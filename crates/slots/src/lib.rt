@@ -4,7 +4,7 @@ ghost use mathlib.Core.Bool.{true};
 ghost use mathlib.Core.List.{_++_};
 ghost use Prim.Native.Nat.{_<_, _≤_};
 ghost use lib.ListN.{length, drop, replicate};
-ghost use Rattle.model.specs.Words.{word};
+ghost use Rattle.model.specs.Words.{word, slotCount};
 ghost use Rattle.model.specs.Sound.{sound};
 ghost use Rattle.slots.specs.Search.{lowestIn, namedSlot};
 use table::FREE;
@@ -17,7 +17,7 @@ pub const ID_BASE: u32 = 0x12010000;
 
 // The lowest slot of a sound table, of those from `from` to `to`, whose word f is v; 0 if there is none.
 pub fn find(t: &[u32], f: usize, v: u32, from: u32, to: u32) -> u32
-    requires { ⌜ (sound (now t) ≡ true) × (f < 8) × (to ≤ word (now t) 0) ⌝ }
+    requires { ⌜ (sound (now t) ≡ true) × (f < 8) × (to ≤ slotCount (now t)) ⌝ }
     ensures { λ r. ⌜ r ≡ lowestIn (now (t .entry)) f v from to ⌝ }
 {
     let mut i = from;

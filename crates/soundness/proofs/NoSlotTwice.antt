@@ -10,7 +10,7 @@ use borrow.Author.Tests.{eqb-true, leb-true, leb-false}
 use Rattle.model.specs.Lists.{All}
 use Rattle.model.specs.declared.Chain.{Chain}
 use Rattle.model.specs.State.{Link}
-use Rattle.model.specs.Words.{field, along, total, linksFrom}
+use Rattle.model.specs.Words.{along, accumulated, linksFrom, waitOf, nextOf}
 use Rattle.model.proofs.ListLaws.{cases}
 use Rattle.soundness.proofs.CountsAddUp.{times}
 
@@ -85,9 +85,9 @@ module _ (next : ℕ → ℕ) where
 
 module _ (k : Chain) (t : List ℕ) where
   abbrev linkAt : ℕ → ℕ → Link
-  linkAt b i = record { slot = i; wait = total k b (field t 3 i) }
+  linkAt b i = record { slot = i; wait = accumulated k b (waitOf t i) }
 
-  pub links-first : (f b i : ℕ) → 1 ≤ i → linksFrom k t (suc f) b i ≡ linkAt b i ∷ linksFrom k t f (total k b (field t 3 i)) (field t 6 i)
+  pub links-first : (f b i : ℕ) → 1 ≤ i → linksFrom k t (suc f) b i ≡ linkAt b i ∷ linksFrom k t f (accumulated k b (waitOf t i)) (nextOf t i)
   links-first f b zero h = absurd (omega arith)
   links-first f b (suc i) h = refl
 
@@ -95,10 +95,10 @@ module _ (k : Chain) (t : List ℕ) where
   links-zero zero b = refl
   links-zero (suc f) b = refl
 
-  pub links-more : (c f b i : ℕ) → Ends (field t 6) c i → c ≤ f → linksFrom k t f b i ≡ linksFrom k t c b i
+  pub links-more : (c f b i : ℕ) → Ends (nextOf t) c i → c ≤ f → linksFrom k t f b i ≡ linksFrom k t c b i
   links-more zero f b i e h = rw e (links-zero f b)
   links-more (suc c) zero b i e h = absurd (omega arith)
   links-more (suc c) (suc f) b i e h =
       links-first f b i (e .0)
-      ∙ ap {B = List Link} (λ l. linkAt b i ∷ l) (links-more c f (total k b (field t 3 i)) (field t 6 i) (e .1) (omega arith))
+      ∙ ap {B = List Link} (λ l. linkAt b i ∷ l) (links-more c f (accumulated k b (waitOf t i)) (nextOf t i) (e .1) (omega arith))
       ∙ sym (links-first c b i (e .0))

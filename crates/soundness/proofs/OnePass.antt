@@ -14,7 +14,7 @@ use Rattle.model.specs.Lists.{allUp, All}
 use Rattle.model.specs.declared.Chain.{Chain}
 use Rattle.model.specs.declared.Chain.the-variants.{ByTicks, ByDate}
 use Rattle.model.specs.Kinds.{waitsIn}
-use Rattle.model.specs.Words.{word, field, headWord, along}
+use Rattle.model.specs.Words.{word, headWord, along, slotCount, seconds, firstTicking, firstDated, kindOf, intervalOf, nextOf}
 use Rattle.model.specs.Sound.{headerSound, slotSound, chainSound, soundTests, sound}
 use Rattle.model.proofs.ListLaws.{cases, both, and-both, or-left, or-right, or-else, all-at, all-true, all-up, up-at}
 use Rattle.table.proofs.KindTests.{kindIn, is-in, not-in}
@@ -39,7 +39,7 @@ module _ (t : List ℕ) where
   -- ---- what is tested decides
 
   abbrev N : ℕ
-  N = word t 0
+  N = slotCount t
 
   abbrev steps : Chain → ℕ
   steps k = waiting k t 1 N
@@ -52,24 +52,24 @@ module _ (t : List ℕ) where
   whole k c w = walked t k ∙ and-both (chainSound k t) (waitsSound k t) c w
 
   -- the head of a chain is of its kind
-  head-kind : (k : Chain) → walk k t N (steps k) (start k t) ≡ true → 1 ≤ word t (headWord k) → field t 0 (word t (headWord k)) ≡ kindIn k
+  head-kind : (k : Chain) → walk k t N (steps k) (start k t) ≡ true → 1 ≤ word t (headWord k) → kindOf t (word t (headWord k)) ≡ kindIn k
   head-kind k w h =
       let i = word t (headWord k) in
-      let all : All (λ j. (1 ≤ j) × (field t 0 j ≡ kindIn k)) (i ∷ along (field t 6) 0 (field t 6 i)) =
-      rw (along-first (field t 6) 0 i h) at (kinds t k (steps k) 1 (start k t) w) in
+      let all : All (λ j. (1 ≤ j) × (kindOf t j ≡ kindIn k)) (i ∷ along (nextOf t) 0 (nextOf t i)) =
+      rw (along-first (nextOf t) 0 i h) at (kinds t k (steps k) 1 (start k t) w) in
       all .0 .1
 
   heads-apart : walk ByTicks t N (steps ByTicks) (start ByTicks t) ≡ true → walk ByDate t N (steps ByDate) (start ByDate t) ≡ true
       → headsTested t ≡ true
   heads-apart a b =
-      cases (eqb (word t 5) 0)
-      (λ q. or-right (not (eqb (word t 5) (word t 6))) (eqb (word t 5) 0) q)
+      cases (eqb (firstTicking t) 0)
+      (λ q. or-right (not (eqb (firstTicking t) (firstDated t))) (eqb (firstTicking t) 0) q)
       (λ q.
-      or-left (not (eqb (word t 5) (word t 6))) (eqb (word t 5) 0)
-      (ap not (ne-eqb (word t 5) (word t 6)
+      or-left (not (eqb (firstTicking t) (firstDated t))) (eqb (firstTicking t) 0)
+      (ap not (ne-eqb (firstTicking t) (firstDated t)
       (λ e.
-      let low = pos-of-ne-zero (eqb-false (word t 5) 0 q) in
-      let five : field t 0 (word t 5) ≡ 5 = subst (λ (v : ℕ). field t 0 v ≡ 5) (sym e) (head-kind ByDate b (omega (arith, low, e))) in
+      let low = pos-of-ne-zero (eqb-false (firstTicking t) 0 q) in
+      let five : kindOf t (firstTicking t) ≡ 5 = subst (λ (v : ℕ). kindOf t v ≡ 5) (sym e) (head-kind ByDate b (omega (arith, low, e))) in
       omega (arith, head-kind ByTicks a low, five)))))
 
   tests-from : sound t ≡ true → tests ≡ true
@@ -96,11 +96,11 @@ module _ (t : List ℕ) where
       let slots : Slots t = λ j a b. up-at (slotTested t) 1 N (q .0) j a (omega arith) in
       let ticks = ticks-whole t (steps ByTicks) (start ByTicks t) slots (λ z. refl) (r .0) in
       let u = both (chainSound ByTicks t) (waitsSound ByTicks t) (sym (walked t ByTicks) ∙ ticks) in
-      let met : (j : ℕ) → 1 ≤ j → j ≤ N → field t 0 j ≡ 4 → 0 < times j (along (field t 6) N (word t 5)) =
+      let met : (j : ℕ) → 1 ≤ j → j ≤ N → kindOf t j ≡ 4 → 0 < times j (along (nextOf t) N (firstTicking t)) =
       λ j a b k. omega (arith, met-once ByTicks t (u .0) j a b k) in
       let apart : Apart t =
       record {
-        ticking = λ j a b k. stands-behind t (steps ByTicks) N (word t 5) 0 ticks j (met j a b k);
+        ticking = λ j a b k. stands-behind t (steps ByTicks) N (firstTicking t) 0 ticks j (met j a b k);
         heads = λ z. heads-zero (p .0) z;
       } in
       let first : Dated t (start ByDate t) =
@@ -114,10 +114,10 @@ module _ (t : List ℕ) where
       tested-sound t j (slots j a high) (λ k. interval-low t (steps ByTicks) N (start ByTicks t) ticks j (met j a high k))) in
       all-true (soundTests t) (h, (sounds, (u .0, (v .0, (u .1, (v .1, tt))))))
     where
-      heads-zero : headsTested t ≡ true → word t 5 ≡ word t 6 → word t 5 ≡ 0
+      heads-zero : headsTested t ≡ true → firstTicking t ≡ firstDated t → firstTicking t ≡ 0
       heads-zero e z =
-          eqb-true (word t 5) 0
-          (or-else (not (eqb (word t 5) (word t 6))) (eqb (word t 5) 0) e (ap not (eq-eqb (word t 5) (word t 6) z)))
+          eqb-true (firstTicking t) 0
+          (or-else (not (eqb (firstTicking t) (firstDated t))) (eqb (firstTicking t) 0) e (ap not (eq-eqb (firstTicking t) (firstDated t) z)))
 
   tests-decide : headerSound t ≡ true → sound t ≡ tests
   tests-decide h = same (sound t) tests tests-from (λ e. tests-to e h)
@@ -127,7 +127,7 @@ module _ (t : List ℕ) where
       sym (tests-decide h ∙ ap (λ (b : Bool). b && leftTested t N 1 N (start ByTicks t) (start ByDate t)) e)
 
   sound-pass : headerSound t ≡ true → headsTested t ≡ true
-      → sound t ≡ leftTested t (word t 0) 1 (word t 0) (start ByTicks t) (start ByDate t)
+      → sound t ≡ leftTested t (slotCount t) 1 (slotCount t) (start ByTicks t) (start ByDate t)
   sound-pass h e = tests-decide h ∙ ap (λ (b : Bool). b && leftTested t N 1 N (start ByTicks t) (start ByDate t)) e
 
 -- ---- one slot of the pass
@@ -141,7 +141,7 @@ module _ (t : List ℕ) (n : ℕ) (x y : Stand) where
   paid k i m u = cond u (suc (waiting k t (suc i) m)) (waiting k t (suc i) m)
 
   opened : (i m : ℕ) → leftTested t n i (suc m) x y
-      ≡ rest (slotTested t i) (suc i) m (paid ByTicks i m (waitsIn ByTicks (field t 0 i))) (paid ByDate i m (waitsIn ByDate (field t 0 i)))
+      ≡ rest (slotTested t i) (suc i) m (paid ByTicks i m (waitsIn ByTicks (kindOf t i))) (paid ByDate i m (waitsIn ByDate (kindOf t i)))
   unfolding leftTested waiting rest
   opened i m = refl
 
@@ -149,35 +149,35 @@ module _ (t : List ℕ) (n : ℕ) (x y : Stand) where
   unfolding rest
   slot-false i m h =
       opened i m
-      ∙ ap (λ (s : Bool). rest s (suc i) m (paid ByTicks i m (waitsIn ByTicks (field t 0 i))) (paid ByDate i m (waitsIn ByDate (field t 0 i)))) h
+      ∙ ap (λ (s : Bool). rest s (suc i) m (paid ByTicks i m (waitsIn ByTicks (kindOf t i))) (paid ByDate i m (waitsIn ByDate (kindOf t i)))) h
 
   -- the slot is sound: the steps are left
-  at-kind : (i m : ℕ) (u v : Bool) → slotTested t i ≡ true → waitsIn ByTicks (field t 0 i) ≡ u → waitsIn ByDate (field t 0 i) ≡ v
+  at-kind : (i m : ℕ) (u v : Bool) → slotTested t i ≡ true → waitsIn ByTicks (kindOf t i) ≡ u → waitsIn ByDate (kindOf t i) ≡ v
       → leftTested t n i (suc m) x y
       ≡ (allUp (slotTested t) (suc i) m && (walkTested ByTicks t n (paid ByTicks i m u) x && walkTested ByDate t n (paid ByDate i m v) y))
   unfolding rest
   at-kind i m u v h f g =
       opened i m
-      ∙ ap (λ (s : Bool). rest s (suc i) m (paid ByTicks i m (waitsIn ByTicks (field t 0 i))) (paid ByDate i m (waitsIn ByDate (field t 0 i)))) h
+      ∙ ap (λ (s : Bool). rest s (suc i) m (paid ByTicks i m (waitsIn ByTicks (kindOf t i))) (paid ByDate i m (waitsIn ByDate (kindOf t i)))) h
       ∙ ap₂ (λ (u v : Bool). rest true (suc i) m (paid ByTicks i m u) (paid ByDate i m v)) f g
 
-  tick : (i m : ℕ) (r : Bool) → slotTested t i ≡ true → field t 0 i ≡ 4 → stepTested ByTicks t n x ≡ r
+  tick : (i m : ℕ) (r : Bool) → slotTested t i ≡ true → kindOf t i ≡ 4 → stepTested ByTicks t n x ≡ r
       → leftTested t n i (suc m) x y
       ≡ (allUp (slotTested t) (suc i) m
       && ((r && walkTested ByTicks t n (waiting ByTicks t (suc i) m) (step ByTicks t x)) && walkTested ByDate t n (waiting ByDate t (suc i) m) y))
   unfolding walkTested
   tick i m r h f g =
-      at-kind i m true false h (is-in ByTicks (field t 0 i) f) (not-in ByDate (field t 0 i) (λ z. omega arith))
+      at-kind i m true false h (is-in ByTicks (kindOf t i) f) (not-in ByDate (kindOf t i) (λ z. omega arith))
       ∙ ap (λ (b : Bool). allUp (slotTested t) (suc i) m
       && ((b && walkTested ByTicks t n (waiting ByTicks t (suc i) m) (step ByTicks t x)) && walkTested ByDate t n (waiting ByDate t (suc i) m) y)) g
 
-  date : (i m : ℕ) (r : Bool) → slotTested t i ≡ true → field t 0 i ≡ 5 → stepTested ByDate t n y ≡ r
+  date : (i m : ℕ) (r : Bool) → slotTested t i ≡ true → kindOf t i ≡ 5 → stepTested ByDate t n y ≡ r
       → leftTested t n i (suc m) x y
       ≡ (allUp (slotTested t) (suc i) m
       && (walkTested ByTicks t n (waiting ByTicks t (suc i) m) x && (r && walkTested ByDate t n (waiting ByDate t (suc i) m) (step ByDate t y))))
   unfolding walkTested
   date i m r h f g =
-      at-kind i m false true h (not-in ByTicks (field t 0 i) (λ z. omega arith)) (is-in ByDate (field t 0 i) f)
+      at-kind i m false true h (not-in ByTicks (kindOf t i) (λ z. omega arith)) (is-in ByDate (kindOf t i) f)
       ∙ ap (λ (b : Bool). allUp (slotTested t) (suc i) m
       && (walkTested ByTicks t n (waiting ByTicks t (suc i) m) x && (b && walkTested ByDate t n (waiting ByDate t (suc i) m) (step ByDate t y)))) g
 
@@ -195,7 +195,7 @@ pub record Passing (t : List ℕ) (n i : ℕ) (x y : Stand) : Type 0 where
   pub ticks : x .reached < 4294967296
   pub left : sound t ≡ leftTested t n i (n + 1 - i) x y
 
-pub begin : (t : List ℕ) → headerSound t ≡ true → headsTested t ≡ true → Passing t (word t 0) 1 (standing (word t 5) 0 0) (standing (word t 6) 0 (word t 3 + 1))
+pub begin : (t : List ℕ) → headerSound t ≡ true → headsTested t ≡ true → Passing t (slotCount t) 1 (standing (firstTicking t) 0 0) (standing (firstDated t) 0 (seconds t + 1))
 begin t e apart =
     let r = header-ranges t e in
     record {
@@ -206,8 +206,8 @@ begin t e apart =
       ticks = omega arith;
       left =
           sound-pass t e apart
-          ∙ ap₂ (λ (m d : ℕ). leftTested t (word t 0) 1 m (standing (word t 5) 0 0) (standing (word t 6) 0 d))
-          (let z : word t 0 ≡ word t 0 + 1 - 1 = omega arith in z) (sym (add-one (word t 3)));
+          ∙ ap₂ (λ (m d : ℕ). leftTested t (slotCount t) 1 m (standing (firstTicking t) 0 0) (standing (firstDated t) 0 d))
+          (let z : slotCount t ≡ slotCount t + 1 - 1 = omega arith in z) (sym (add-one (seconds t)));
     }
 
 module _ {t : List ℕ} {n i : ℕ} {x y : Stand} (p : Passing t n i x y) where
@@ -242,26 +242,26 @@ module _ {t : List ℕ} {n i : ℕ} {x y : Stand} (p : Passing t n i x y) where
     pub slot-fails : slotTested t i ≡ false → false ≡ sound t
     slot-fails h = sym (here ∙ slot-false t n x y i more h)
 
-    pub pass-other : slotTested t i ≡ true → (field t 0 i ≡ 4 → ⊥) → (field t 0 i ≡ 5 → ⊥) → Passing t n (i + 1) x y
+    pub pass-other : slotTested t i ≡ true → (kindOf t i ≡ 4 → ⊥) → (kindOf t i ≡ 5 → ⊥) → Passing t n (i + 1) x y
     unfolding leftTested
-    pass-other h f g = on x y (p .ticks) (here ∙ at-kind t n x y i more false false h (not-in ByTicks (field t 0 i) f) (not-in ByDate (field t 0 i) g))
+    pass-other h f g = on x y (p .ticks) (here ∙ at-kind t n x y i more false false h (not-in ByTicks (kindOf t i) f) (not-in ByDate (kindOf t i) g))
 
-    pub tick-fails : slotTested t i ≡ true → field t 0 i ≡ 4 → stepTested ByTicks t n x ≡ false → false ≡ sound t
+    pub tick-fails : slotTested t i ≡ true → kindOf t i ≡ 4 → stepTested ByTicks t n x ≡ false → false ≡ sound t
     tick-fails h f g = sym (here ∙ tick t n x y i more false h f g ∙ and-false (allUp (slotTested t) (suc i) more))
 
-    pub pass-tick : slotTested t i ≡ true → field t 0 i ≡ 4 → stepTested ByTicks t n x ≡ true → field t 2 (x .slot) < 4294967296
+    pub pass-tick : slotTested t i ≡ true → kindOf t i ≡ 4 → stepTested ByTicks t n x ≡ true → intervalOf t (x .slot) < 4294967296
         → Passing t n (i + 1) (step ByTicks t x) y
     unfolding leftTested
     pass-tick h f g fits =
         let s = in-ticks t n x g in
         on (step ByTicks t x) y (omega arith) (here ∙ tick t n x y i more true h f g)
 
-    pub date-fails : slotTested t i ≡ true → field t 0 i ≡ 5 → stepTested ByDate t n y ≡ false → false ≡ sound t
+    pub date-fails : slotTested t i ≡ true → kindOf t i ≡ 5 → stepTested ByDate t n y ≡ false → false ≡ sound t
     date-fails h f g =
         sym (here ∙ date t n x y i more false h f g
         ∙ ap (λ (b : Bool). allUp (slotTested t) (suc i) more && b) (and-false (walkTested ByTicks t n (waiting ByTicks t (suc i) more) x))
         ∙ and-false (allUp (slotTested t) (suc i) more))
 
-    pub pass-date : slotTested t i ≡ true → field t 0 i ≡ 5 → stepTested ByDate t n y ≡ true → Passing t n (i + 1) x (step ByDate t y)
+    pub pass-date : slotTested t i ≡ true → kindOf t i ≡ 5 → stepTested ByDate t n y ≡ true → Passing t n (i + 1) x (step ByDate t y)
     unfolding leftTested
     pass-date h f g = on x (step ByDate t y) (p .ticks) (here ∙ date t n x y i more true h f g)

@@ -9,7 +9,7 @@ use lib.Dec.{ltb, eqb}
 use borrow.Author.Tests.{ltb-true, ltb-false, eq-eqb, ne-eqb}
 use Rattle.model.specs.declared.Chain.{Chain}
 use Rattle.model.specs.declared.Chain.the-variants.{ByTicks, ByDate}
-use Rattle.model.specs.Kinds.{Kind, is, kinds, kindAt, isIn, waitsIn, isSome, waits, byTicks, lastByTicks}
+use Rattle.model.specs.Kinds.{Kind, kindEntry, kinds, kindAt, isIn, waitsIn, isSome, linked, byTicks, lastByTicks}
 use Rattle.model.proofs.ListLaws.{cases}
 use Rattle.model.proofs.KindLaws.{readAll, on-kinds}
 
@@ -20,11 +20,11 @@ kindIn ByDate = 5
 
 -- a test on what a kind says is a test on its number
 number : (f : Kind → Bool) (g : ℕ → Bool) → readAll (λ _ x. f x) 0 kinds ≡ readAll (λ n _. g n) 0 kinds
-    → ((n : ℕ) → 5 < n → f (is none n n none) ≡ g n) → (n : ℕ) → f (kindAt n) ≡ g n
+    → ((n : ℕ) → 5 < n → f (kindEntry none n n none) ≡ g n) → (n : ℕ) → f (kindAt n) ≡ g n
 number f g same past n =
     cases (ltb n 6)
     (λ e. on-kinds (λ _ x. f x) (λ m _. g m) same n (ltb-true n 6 e))
-    (λ e. ap f (List·getD-eq-default kinds (is none n n none) {n = n} (ltb-false n 6 e)) ∙ past n (ltb-false n 6 e))
+    (λ e. ap f (List·getD-eq-default kinds (kindEntry none n n none) {n = n} (ltb-false n 6 e)) ∙ past n (ltb-false n 6 e))
 
 pub kind-is : (k : Chain) (n : ℕ) → waitsIn k n ≡ eqb n (kindIn k)
 kind-is ByTicks n =
@@ -37,7 +37,7 @@ timed-is n =
     number (λ x. byTicks (x .last)) (λ m. eqb m 2 || eqb m 4) refl
     (λ m p. sym (rw (ne-eqb m 2 (λ e. omega arith), ne-eqb m 4 (λ e. omega arith)))) n
 
-pub linked-is : (n : ℕ) → n ≤ 5 → waits n ≡ ltb 3 n
+pub linked-is : (n : ℕ) → n ≤ 5 → linked n ≡ ltb 3 n
 linked-is n p = on-kinds (λ _ x. isSome (x .chain)) (λ m _. ltb 3 m) refl n (omega arith)
 
 pub is-in : (k : Chain) (n : ℕ) → n ≡ kindIn k → waitsIn k n ≡ true

@@ -9,7 +9,7 @@
 ghost use mathlib.Core.Path.{_≡_};
 ghost use Prim.Native.Nat.{_+_, _*_, _<_, _≤_};
 ghost use lib.ListN.{length, set};
-ghost use Rattle.model.specs.Words.{field};
+ghost use Rattle.model.specs.Words.{field, seconds};
 
 // The words of the header.
 pub const SLOT_COUNT: usize = 0;
@@ -78,7 +78,7 @@ pub const WAITING_DATE: u32 = 5;
 // Word f of slot i.
 pub fn get(t: &[u32], i: u32, f: usize) -> u32
     requires { ⌜ (f < 8) × (8 * i + 10 ≤ length (now t)) ⌝ }
-    ensures { λ r. ⌜ r ≡ field (now (t .entry)) f i ⌝ }
+    ensures { λ r. ⌜ r ≡ field (now (t .entry)) i f ⌝ }
 {
     t[SLOT_ZERO + SLOT * (i as usize) + f]
 }

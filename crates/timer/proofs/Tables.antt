@@ -7,9 +7,9 @@ use mathlib.Core.List.{List, [], _∷_, _++_}
 use lib.ListN.{length, set, drop, replicate, length-replicate}
 use lib.Dec.{eqb}
 use Rattle.model.specs.declared.Chain.the-variants.{ByTicks, ByDate}
-use Rattle.model.specs.State.{Slot, Link, State, rechain, free, slotAt, without}
-use Rattle.model.specs.Directives.{laidOut, lowestFree, stored, unused, stopped, idled}
-use Rattle.model.specs.Words.{slotWords, allSlots, write, over, read}
+use Rattle.model.specs.State.{Slot, Link, State, withChain, free, slotAt, without}
+use Rattle.model.specs.Directives.{laidOut, lowestFree, stored, neverStarted, stopped, idled}
+use Rattle.model.specs.Words.{slotWords, allSlots, write, writtenOver, read}
 use Rattle.model.specs.Sound.{sound}
 use Rattle.model.proofs.Slots.{put-put}
 use Rattle.model.proofs.Searches.{found}
@@ -29,19 +29,19 @@ module _ (t : List ℕ) (ok : sound t ≡ true) where
         let f = found (λ x. eqb (x .kind) 0) (read t .slots) (omega (arith, is, some)) in
         record { holds = sound-holds t ok; low = omega (arith, some); high = omega (arith, f .high, slots-length t, is) }
 
-    pub created-is : {u : List ℕ} (name : ℕ) → u ≡ over (stored (read t) i (unused name)) t → u ≡ over (stored (read t) (lowestFree (read t)) (unused name)) t
-    created-is name h = h ∙ ap (λ (k : ℕ). over (stored (read t) k (unused name)) t) (sym is)
+    pub created-is : {u : List ℕ} (name : ℕ) → u ≡ writtenOver (stored (read t) i (neverStarted name)) t → u ≡ writtenOver (stored (read t) (lowestFree (read t)) (neverStarted name)) t
+    created-is name h = h ∙ ap (λ (k : ℕ). writtenOver (stored (read t) k (neverStarted name)) t) (sym is)
 
-  module _ {i : ℕ} (at : InTable t i) {u : List ℕ} (e : u ≡ over (stoppedAt t i) t) where
+  module _ {i : ℕ} (at : InTable t i) {u : List ℕ} (e : u ≡ writtenOver (stoppedAt t i) t) where
     pub still-in-table : InTable u i
     still-in-table = idle-now t i at u e .in-table
 
-    pub deleted-is : {v : List ℕ} → v ≡ over (stored (read u) i free) u → v ≡ over (stopped (read t) i free) t
+    pub deleted-is : {v : List ℕ} → v ≡ writtenOver (stored (read u) i free) u → v ≡ writtenOver (stopped (read t) i free) t
     deleted-is h =
         let s = stoppedAt t i in
-        h ∙ ap₂ (λ (r : State) (w : List ℕ). over (stored r i free) w) (next-read (stop-next t i at u e)) e
+        h ∙ ap₂ (λ (r : State) (w : List ℕ). writtenOver (stored r i free) w) (next-read (stop-next t i at u e)) e
         ∙ over-over s (stored s i free) t (length-stored s i free)
-        ∙ ap (λ (l : List Slot). over (rechain ByTicks (rechain ByDate (read t) l (without i (read t .dated))) l (without i (read t .ticking))) t)
+        ∙ ap (λ (l : List Slot). writtenOver (withChain ByTicks (withChain ByDate (read t) l (without i (read t .dated))) l (without i (read t .ticking))) t)
         (put-put (read t .slots) i (idled (slotAt (read t .slots) i)) free)
 
 -- ---- lay out
@@ -69,7 +69,7 @@ module _ (n t : ℕ) (rest : List ℕ) where
       ten : suc (suc (suc (suc (suc (suc (suc (suc (suc (suc (8 * n)))))))))) ≡ 10 + 8 * n
       ten = omega arith
 
-pub laid-is : (w u : List ℕ) (n t : ℕ) → u ≡ replicate (10 + 8 * n) 0 ++ drop (10 + 8 * n) w → set (set u 0 n) 1 t ≡ over (laidOut n t) w
+pub laid-is : (w u : List ℕ) (n t : ℕ) → u ≡ replicate (10 + 8 * n) 0 ++ drop (10 + 8 * n) w → set (set u 0 n) 1 t ≡ writtenOver (laidOut n t) w
 laid-is w u n t e =
     ap (λ (l : List ℕ). set (set l 0 n) 1 t) e
     ∙ sym (laid-words n t (drop (10 + 8 * n) w))

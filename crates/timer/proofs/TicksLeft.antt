@@ -9,7 +9,7 @@ use borrow.Author.Tests.{eq-eqb, ne-eqb}
 use Rattle.model.specs.declared.Chain.the-variants.{ByTicks}
 use Rattle.model.specs.Kinds.{waitsIn}
 use Rattle.model.specs.State.{Slot, Link, indexOf, waitAt}
-use Rattle.model.specs.Words.{field, read}
+use Rattle.model.specs.Words.{read, kindOf}
 use Rattle.model.proofs.ListLaws.{cases}
 use Rattle.model.proofs.WellFormed.{timesIn}
 use Rattle.model.proofs.ReadBack.{slot-read}
@@ -22,20 +22,20 @@ wait-none i (w ∷ ws) e =
     cases (eqb (w .slot) i) (λ f. absurd (let z = rw f at e in omega arith)) (λ f. rw f (wait-none i ws (rw f at e)))
 
 module _ {t : List ℕ} {id i : ℕ} (at : Named t id i) where
-  meets : timesIn (read t .ticking) i ≡ cond (eqb (field t 0 i) 4) 1 0
+  meets : timesIn (read t .ticking) i ≡ cond (eqb (kindOf t i) 4) 1 0
   meets =
       at .place .holds .chained .meets ByTicks i
       ∙ ap (λ (x : Slot). cond (waitsIn ByTicks (x .kind)) 1 0) (slot-read t i (at .place .low) (at .place .high))
-      ∙ ap {B = ℕ} (λ (b : Bool). cond b 1 0) (kind-is ByTicks (field t 0 i))
+      ∙ ap {B = ℕ} (λ (b : Bool). cond b 1 0) (kind-is ByTicks (kindOf t i))
 
-  pub no-ticks : (field t 0 i ≡ 4 → ⊥) → _≡_ {A = List ℕ} (0 ∷ []) (waitAt (indexOf id) (read t .ticking) ∷ [])
+  pub no-ticks : (kindOf t i ≡ 4 → ⊥) → _≡_ {A = List ℕ} (0 ∷ []) (waitAt (indexOf id) (read t .ticking) ∷ [])
   no-ticks n =
       ap {B = List ℕ} (λ (m : ℕ). m ∷ [])
       (sym (ap (λ (j : ℕ). waitAt j (read t .ticking)) (sym (at .index))
-      ∙ wait-none i (read t .ticking) (meets ∙ ap (λ (b : Bool). cond b 1 0) (ne-eqb (field t 0 i) 4 n))))
+      ∙ wait-none i (read t .ticking) (meets ∙ ap (λ (b : Bool). cond b 1 0) (ne-eqb (kindOf t i) 4 n))))
 
-  pub ticks-met : field t 0 i ≡ 4 → 0 < timesIn (read t .ticking) i
-  ticks-met k = omega (arith, meets ∙ ap (λ (b : Bool). cond b 1 0) (eq-eqb (field t 0 i) 4 k))
+  pub ticks-met : kindOf t i ≡ 4 → 0 < timesIn (read t .ticking) i
+  ticks-met k = omega (arith, meets ∙ ap (λ (b : Bool). cond b 1 0) (eq-eqb (kindOf t i) 4 k))
 
   pub some-ticks : {r : ℕ} → r ≡ waitAt i (read t .ticking) → _≡_ {A = List ℕ} (r ∷ []) (waitAt (indexOf id) (read t .ticking) ∷ [])
   some-ticks h = ap {B = List ℕ} (λ (m : ℕ). m ∷ []) (h ∙ ap (λ (j : ℕ). waitAt j (read t .ticking)) (at .index))

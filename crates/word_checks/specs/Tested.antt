@@ -7,7 +7,7 @@ use lib.Dec.{eqb}
 use Rattle.calendar.specs.Calendar.{allOf}
 use Rattle.model.specs.declared.Chain.the-variants.{ByTicks}
 use Rattle.model.specs.Kinds.{waitsIn}
-use Rattle.model.specs.Words.{field}
+use Rattle.model.specs.Words.{kindOf}
 use Rattle.model.specs.Sound.{slotTests}
 
 -- all three numbers are zero
@@ -22,4 +22,4 @@ abbrev pub slotTestedAs : List ℕ → ℕ → ℕ → Bool
 slotTestedAs t i kind = allOf (slotTestsMade t i kind)
 
 unfoldable pub slotTested : List ℕ → ℕ → Bool
-slotTested t i = slotTestedAs t i (field t 0 i)
+slotTested t i = slotTestedAs t i (kindOf t i)

@@ -6,7 +6,7 @@ use Prim.Native.Nat.{ℕ, _*_, _≤_}
 use native.Mathlib.Omega.{arith}
 use lib.ListN.{length}
 use Rattle.model.specs.declared.Status.the-variants.{InvalidClock, NotSound, ListTooShort}
-use Rattle.model.specs.Words.{word}
+use Rattle.model.specs.Words.{slotCount}
 use Rattle.model.proofs.SoundHolds.{sound-header, sound-holds}
 use Rattle.firing.proofs.Ticks.{moved-room, moved-is}
 use Rattle.answers.proofs.Replies.{Tested, tested, not-same, refuses}
@@ -31,7 +31,7 @@ sure b = tested (b .before .is-sound .ensures) (b .if1 .left)
 abbrev found : tie.Else2 → tie.Else1
 found d = d .before .before .before
 
-long : (d : tie.Else2) → 3 * word (t (found d)) 0 ≤ length (list (found d))
+long : (d : tie.Else2) → 3 * slotCount (t (found d)) ≤ length (list (found d))
 long d = long-enough (t (found d)) (list (found d)) (d .before .list-words .ensures) (d .if2 .left)
 
 -- ---- the needs

@@ -8,7 +8,7 @@ use lib.ListN.{length}
 use Rattle.model.specs.declared.Chain.the-variants.{ByDate}
 use Rattle.model.specs.declared.Status.the-variants.{NotSound, ListTooShort}
 use Rattle.model.specs.Directives.{clockStep}
-use Rattle.model.specs.Words.{word, read}
+use Rattle.model.specs.Words.{read, slotCount, seconds}
 use Rattle.model.proofs.SoundHolds.{sound-header}
 use Rattle.firing.specs.Lists.{Room}
 use Rattle.firing.proofs.Ticks.{nearer-room, first-holds, first-into, clock-long, clock-room, second-is, ticked-is}
@@ -34,7 +34,7 @@ sure b = tested (b .before .is-sound .ensures) (b .if1 .left)
 abbrev found : tie.Else2 → tie.Else1
 found d = d .before .before .before
 
-long : (d : tie.Else2) → 3 * word (t (found d)) 0 ≤ length (list (found d))
+long : (d : tie.Else2) → 3 * slotCount (t (found d)) ≤ length (list (found d))
 long d = long-enough (t (found d)) (list (found d)) (d .before .list-words .ensures) (d .if2 .left)
 
 -- ---- the interval timers came nearer, those due fired, and the clock went on
@@ -58,7 +58,7 @@ module _ (clock : tie.After-step-clock) where
   stepped-room : (second : ℕ) → Room ByDate (clock .step-clock .last .0) (fired .fire .last .1 .0) second (fired .fire .result)
   stepped-room = clock-room _ _ (sure (found d) .ok) (long d) (near fired .come-nearer .ensures) (fired .fire .ensures) (clock .step-clock .ensures)
 
-  stepped-second : word (clock .step-clock .last .0) 3 ≡ clockStep (read (t (found d)) .clock) .second
+  stepped-second : seconds (clock .step-clock .last .0) ≡ clockStep (read (t (found d)) .clock) .second
   stepped-second = second-is _ _ (sure (found d) .ok) (long d) (near fired .come-nearer .ensures) (fired .fire .ensures) (clock .step-clock .ensures)
 
 -- ---- the needs

@@ -36,7 +36,7 @@ returns c =
     let asked = done .before .before .before in
     let start = asked .before .before .before in
     let four = sym (asked .get .ensures) ∙ done .before .before .if1 .taken in
-    stop-waiting (start .args .t .now) (start .args .i) (start .pre) ByTicks (is-in ByTicks _ four) 2 (sym (ap (λ (n : ℕ). kindAt n .stopped) four))
+    stop-waiting (start .args .t .now) (start .args .i) (start .pre) ByTicks (is-in ByTicks _ four) 2 (sym (ap (λ (n : ℕ). kindAt n .whenStopped) four))
     (done .extract .ensures) (c .before .before .put .ensures)
 
 extract-requires-2 : tie.Need-extract-requires-2
@@ -61,7 +61,7 @@ returns-2 c =
     let asked = done .before .before .before .before in
     let start = asked .before .before .before in
     let five = sym (asked .get .ensures) ∙ done .before .before .if2 .taken in
-    stop-waiting (start .args .t .now) (start .args .i) (start .pre) ByDate (is-in ByDate _ five) 3 (sym (ap (λ (n : ℕ). kindAt n .stopped) five))
+    stop-waiting (start .args .t .now) (start .args .i) (start .pre) ByDate (is-in ByDate _ five) 3 (sym (ap (λ (n : ℕ). kindAt n .whenStopped) five))
     (done .extract2 .ensures) (c .before .before .put2 .ensures)
 
 same-length-3 : tie.Need-same-length-3

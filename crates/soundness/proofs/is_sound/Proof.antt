@@ -9,7 +9,7 @@ use mathlib.Core.List.{List}
 use native.Mathlib.Omega.{arith}
 use borrow.Author.Tests.{eq-eqb, ne-eqb}
 use Rattle.model.specs.declared.Chain.the-variants.{ByTicks, ByDate}
-use Rattle.model.specs.Words.{word, field}
+use Rattle.model.specs.Words.{slotCount, kindOf}
 use Rattle.model.specs.Sound.{headerSound}
 use Rattle.word_checks.specs.Tested.{slotTested}
 use Rattle.word_checks.proofs.BooleanTests.{passed, failed}
@@ -46,24 +46,24 @@ abbrev turn : tie.At-loop Inv-loop μ-loop → List ℕ
 turn c = words (c .before .before .before .before .before .before .before)
 
 abbrev tick : tie.At-loop Inv-loop μ-loop → Bool
-tick c = stepTested ByTicks (turn c) (word (turn c) 0) (standing (c .loop .tick-at) (c .loop .tick-before) (c .loop .ticks))
+tick c = stepTested ByTicks (turn c) (slotCount (turn c)) (standing (c .loop .tick-at) (c .loop .tick-before) (c .loop .ticks))
 
 abbrev date : tie.At-loop Inv-loop μ-loop → Bool
-date c = stepTested ByDate (turn c) (word (turn c) 0) (standing (c .loop .date-at) (c .loop .date-before) (c .loop .date))
+date c = stepTested ByDate (turn c) (slotCount (turn c)) (standing (c .loop .date-at) (c .loop .date-before) (c .loop .date))
 
-in-range : (c : tie.In-loop Inv-loop μ-loop) → c .before .loop .i ≤ word (turn (c .before)) 0
+in-range : (c : tie.In-loop Inv-loop μ-loop) → c .before .loop .i ≤ slotCount (turn (c .before))
 in-range c = omega arith
 
 slot-passed : (c : tie.Else3 Inv-loop μ-loop) → let l = c .before .before .before in slotTested (turn l) (l .loop .i) ≡ true
 slot-passed c = passed (c .before .slot-tested .ensures) (c .if3 .left)
 
-four : (c : tie.Then4 Inv-loop μ-loop) → let l = c .before .before .before .before .before in field (turn l) 0 (l .loop .i) ≡ 4
+four : (c : tie.Then4 Inv-loop μ-loop) → let l = c .before .before .before .before .before in kindOf (turn l) (l .loop .i) ≡ 4
 four c = sym (c .before .get .ensures) ∙ c .if4 .taken
 
 tick-passed : (c : tie.Else5 Inv-loop μ-loop) → tick (c .before .before .before .before .before .before .before) ≡ true
 tick-passed c = passed (c .before .tick-tested .ensures) (c .if5 .left)
 
-five : (c : tie.Then6 Inv-loop μ-loop) → let l = c .before .before .before .before .before .before in field (turn l) 0 (l .loop .i) ≡ 5
+five : (c : tie.Then6 Inv-loop μ-loop) → let l = c .before .before .before .before .before .before in kindOf (turn l) (l .loop .i) ≡ 5
 five c = sym (c .before .before .get .ensures) ∙ c .if6 .taken
 
 date-passed : (c : tie.Else7 Inv-loop μ-loop) → date (c .before .before .before .before .before .before .before .before) ≡ true

@@ -9,7 +9,7 @@ use native.Mathlib.Omega.{arith}
 use lib.Dec.{eqb}
 use Rattle.model.specs.declared.Status.the-variants.{InvalidId, InvalidAddress, NotDefined, InvalidClock, NotSound}
 use Rattle.model.specs.Directives.{notAhead}
-use Rattle.model.specs.Words.{word, read}
+use Rattle.model.specs.Words.{read, seconds}
 use Rattle.model.proofs.SoundHolds.{sound-header}
 use Rattle.answers.proofs.Replies.{Tested, tested, not-same, refuses, done, clock-unset, clock-running}
 use Rattle.answers.proofs.Ids.{Named, named, unknown}
@@ -48,7 +48,7 @@ module _ (y : tie.Else4) where
   abbrev b : tie.Else1
   b = tried (ready told)
 
-  later : word (t b) 3 < told .date .given .0 .0 → notAhead (read (t b)) (b .before .before .before .before .args .when) ≡ false
+  later : seconds (t b) < told .date .given .0 .0 → notAhead (read (t b)) (b .before .before .before .before .args .when) ≡ false
   later = later-date (t b) _ (told .before .before .to-seconds .ensures) (told .date .given .1)
 
 -- ---- the id names a slot

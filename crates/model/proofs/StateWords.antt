@@ -12,9 +12,9 @@ use lib.Dec.{ltb, eqb}
 use borrow.Author.Tests.{ltb-true, ltb-false, eqb-true, eqb-false, eq-eqb}
 use Rattle.model.specs.Kinds.{Chain, ByTicks, ByDate}
 use Rattle.model.specs.State.{Slot, Link, State, chainOf, free, slotAt}
-use Rattle.model.specs.Words.{first, difference, nextIn, previousIn, waitIn, sumOf, slotWords, allSlots, write, over, word, field, headWord, total, slotFrom}
+use Rattle.model.specs.Words.{first, difference, nextIn, previousIn, waitIn, sumOf, slotWords, allSlots, write, writtenOver, word, field, headWord, accumulated, slotFrom, ticksInto, waitOf, nextOf, previousOf}
 use Rattle.model.proofs.ListLaws.{cases}
-use Rattle.model.proofs.Each.{end, _&_, each-at}
+use Rattle.model.proofs.EachPlace.{end, _&_, each-at}
 use Rattle.model.proofs.WellFormed.{timesIn, Chained, Holds}
 use Rattle.model.proofs.Chains.{times-own, once-all, once, met-in-range}
 
@@ -43,7 +43,7 @@ pub drop-write : (s : State) (rest : List ℕ) → drop (10 + 8 * length (s .slo
 drop-write s rest =
     drop-append-add (headWords s) (allSlots s 1 (s .slots) rest) (8 * length (s .slots)) ∙ drop-slots s 1 (s .slots) rest
 
-pub length-over : (s : State) (t : List ℕ) → 10 + 8 * length (s .slots) ≤ length t → length (over s t) ≡ length t
+pub length-over : (s : State) (t : List ℕ) → 10 + 8 * length (s .slots) ≤ length t → length (writtenOver s t) ≡ length t
 length-over s t long =
     let n = 10 + 8 * length (s .slots) in omega (arith, length-write s (drop n t), length-drop n t)
 
@@ -64,7 +64,7 @@ word-of s b (suc j) i f (x ∷ xs) rest is p q =
 
 pub record Spelled (t : List ℕ) (s : State) : Type 0 where
   pub heads : (m : ℕ) → m < 10 → word t m ≡ getD (headWords s) m 0
-  pub body : (i f : ℕ) → f < 8 → 0 < i → i ≤ length (s .slots) → field t f i ≡ getD (slotWords s i (slotAt (s .slots) i) []) f 0
+  pub body : (i f : ℕ) → f < 8 → 0 < i → i ≤ length (s .slots) → field t i f ≡ getD (slotWords s i (slotAt (s .slots) i) []) f 0
 
 write-spelled : (s : State) (rest : List ℕ) → Spelled (write s rest) s
 write-spelled s rest = record {
@@ -73,7 +73,7 @@ write-spelled s rest = record {
 }
   where
     inside : (i f : ℕ) → f < 8 → 0 < i → i ≤ length (s .slots)
-        → field (write s rest) f i ≡ getD (slotWords s i (slotAt (s .slots) i) []) f 0
+        → field (write s rest) i f ≡ getD (slotWords s i (slotAt (s .slots) i) []) f 0
     inside zero f p a b = absurd (omega arith)
     inside (suc i) f p a b =
         let e : 2 + 8 * suc i + f ≡ 10 + (8 * i + f) = omega arith in
@@ -96,18 +96,18 @@ same-words t u s h g m p =
     rw is (h .body i f (omega arith) (omega arith) (omega arith) ∙ sym (g .body i f (omega arith) (omega arith) (omega arith))))
 
 -- the words behind it are as they were
-pub past-over : (s : State) (t : List ℕ) (m : ℕ) → 10 + 8 * length (s .slots) ≤ m → word (over s t) m ≡ word t m
+pub past-over : (s : State) (t : List ℕ) (m : ℕ) → 10 + 8 * length (s .slots) ≤ m → word (writtenOver s t) m ≡ word t m
 past-over s t m q =
     let n = 10 + 8 * length (s .slots) in
     let is : m ≡ n + (m - n) = omega arith in
-    ap (word (over s t)) is ∙ sym (getD-drop n (over s t) (m - n) 0)
+    ap (word (writtenOver s t)) is ∙ sym (getD-drop n (writtenOver s t) (m - n) 0)
     ∙ ap (λ (u : List ℕ). word u (m - n)) (drop-write s (drop n t)) ∙ getD-drop n t (m - n) 0 ∙ ap (word t) (sym is)
 
-pub spelled-over : (t : List ℕ) (s : State) → Spelled t s → 10 + 8 * length (s .slots) ≤ length t → over s t ≡ t
+pub spelled-over : (t : List ℕ) (s : State) → Spelled t s → 10 + 8 * length (s .slots) ≤ length t → writtenOver s t ≡ t
 spelled-over t s h long =
     let n = 10 + 8 * length (s .slots) in
-    ext-getD 0 (over s t) t (length-over s t long) (λ m _. cases (ltb m n)
-    (λ e. same-words (over s t) t s (write-spelled s (drop n t)) h m (ltb-true m n e))
+    ext-getD 0 (writtenOver s t) t (length-over s t long) (λ m _. cases (ltb m n)
+    (λ e. same-words (writtenOver s t) t s (write-spelled s (drop n t)) h m (ltb-true m n e))
     (λ e. past-over s t m (ltb-false m n e)))
 
 -- ---- by parts
@@ -121,7 +121,7 @@ abbrev pub linkIn : List Link → ℕ → ℕ
 linkIn c zero = first c
 linkIn c (suc p) = nextIn c (suc p)
 
-pub link-field : (k : Chain) (t : List ℕ) (p : ℕ) → 0 < p → word t (linkWord k p) ≡ field t 6 p
+pub link-field : (k : Chain) (t : List ℕ) (p : ℕ) → 0 < p → word t (linkWord k p) ≡ nextOf t p
 link-field k t zero q = absurd (omega arith)
 link-field k t (suc p) q = refl
 
@@ -132,14 +132,14 @@ link-next c (suc p) q = refl
 -- chain k of the table t is c
 pub record Lay (k : Chain) (t : List ℕ) (c : List Link) : Type 0 where
   pub links : (p : ℕ) → (0 < p → 0 < timesIn c p) → word t (linkWord k p) ≡ linkIn c p
-  pub previous : (i : ℕ) → 0 < timesIn c i → field t 7 i ≡ previousIn 0 c i
-  pub waits : (i : ℕ) → 0 < timesIn c i → field t 3 i ≡ waitIn k 0 c i
+  pub previous : (i : ℕ) → 0 < timesIn c i → previousOf t i ≡ previousIn 0 c i
+  pub waits : (i : ℕ) → 0 < timesIn c i → waitOf t i ≡ waitIn k 0 c i
 
 -- slot i is in no chain
 pub record Loose (t : List ℕ) (i : ℕ) : Type 0 where
-  pub wait : field t 3 i ≡ 0
-  pub next : field t 6 i ≡ 0
-  pub previous : field t 7 i ≡ 0
+  pub wait : waitOf t i ≡ 0
+  pub next : nextOf t i ≡ 0
+  pub previous : previousOf t i ≡ 0
 
 pub record Parts (t : List ℕ) (s : State) : Type 0 where
   pub heads : (m : ℕ) → m < 10 → m ≢ 5 → m ≢ 6 → word t m ≡ getD (headWords s) m 0
@@ -182,14 +182,14 @@ record Reading : Type 0 where
   of : Chain → List Link → ℕ → ℕ
   none : (k : Chain) (c : List Link) (i : ℕ) → timesIn c i ≡ 0 → of k c i ≡ 0
 
-abbrev waitOf : Reading
-waitOf = record { of = λ k. waitIn k 0; none = λ k. none-wait k 0 }
+abbrev theWait : Reading
+theWait = record { of = λ k. waitIn k 0; none = λ k. none-wait k 0 }
 
-abbrev nextOf : Reading
-nextOf = record { of = λ _. nextIn; none = λ _. none-next }
+abbrev theNext : Reading
+theNext = record { of = λ _. nextIn; none = λ _. none-next }
 
-abbrev previousOf : Reading
-previousOf = record { of = λ _. previousIn 0; none = λ _. none-previous 0 }
+abbrev thePrevious : Reading
+thePrevious = record { of = λ _. previousIn 0; none = λ _. none-previous 0 }
 
 -- the numbers of the slot i in the chains, added
 module _ (s : State) (h : Chained s) (r : Reading) (i : ℕ) where
@@ -213,13 +213,13 @@ module _ (t : List ℕ) (s : State) (h : Chained s) where
     heads = λ m p _ _. e .heads m p;
     lay = λ k. record {
       links = λ p m. link k p m;
-      previous = λ i m. let a = met-in-range s h k i m in e .body i 7 (omega arith) (a .0) (a .1) ∙ sum-in s h previousOf i k m;
-      waits = λ i m. let a = met-in-range s h k i m in e .body i 3 (omega arith) (a .0) (a .1) ∙ sum-in s h waitOf i k m;
+      previous = λ i m. let a = met-in-range s h k i m in e .body i 7 (omega arith) (a .0) (a .1) ∙ sum-in s h thePrevious i k m;
+      waits = λ i m. let a = met-in-range s h k i m in e .body i 3 (omega arith) (a .0) (a .1) ∙ sum-in s h theWait i k m;
     };
     loose = λ i a b z. record {
-      wait = e .body i 3 (omega arith) a b ∙ sum-none s h waitOf i z;
-      next = e .body i 6 (omega arith) a b ∙ sum-none s h nextOf i z;
-      previous = e .body i 7 (omega arith) a b ∙ sum-none s h previousOf i z;
+      wait = e .body i 3 (omega arith) a b ∙ sum-none s h theWait i z;
+      next = e .body i 6 (omega arith) a b ∙ sum-none s h theNext i z;
+      previous = e .body i 7 (omega arith) a b ∙ sum-none s h thePrevious i z;
     };
     slots = λ i a b d. record {
       kind = e .body i 0 (omega arith) a b d;
@@ -238,7 +238,7 @@ module _ (t : List ℕ) (s : State) (h : Chained s) where
       link k zero m = head k
       link k (suc p) m =
           let a = met-in-range s h k (suc p) (m (omega arith)) in
-          e .body (suc p) 6 (omega arith) (a .0) (a .1) ∙ sum-in s h nextOf (suc p) k (m (omega arith))
+          e .body (suc p) 6 (omega arith) (a .0) (a .1) ∙ sum-in s h theNext (suc p) k (m (omega arith))
 
   parts-spelled : Parts t s → Spelled t s
   parts-spelled e = record { heads = λ m p. head m p; body = λ i f p a b. body i a b f p }
@@ -251,17 +251,17 @@ module _ (t : List ℕ) (s : State) (h : Chained s) where
           (λ g. let z : m ≡ 6 = eqb-true m 6 g in rw z (e .lay ByDate .links 0 (λ q. absurd (omega arith))))
           (λ g. e .heads m p (eqb-false m 5 f) (eqb-false m 6 g)))
 
-      body : (i : ℕ) → 0 < i → i ≤ length (s .slots) → (f : ℕ) → f < 8 → field t f i ≡ getD (slotWords s i (slotAt (s .slots) i) []) f 0
-      body i a b = each-at (λ f n. field t f i ≡ n) 0 (slotWords s i (slotAt (s .slots) i) []) (
+      body : (i : ℕ) → 0 < i → i ≤ length (s .slots) → (f : ℕ) → f < 8 → field t i f ≡ getD (slotWords s i (slotAt (s .slots) i) []) f 0
+      body i a b = each-at (λ f n. field t i f ≡ n) 0 (slotWords s i (slotAt (s .slots) i) []) (
           ap (λ (x : Slot). x .kind) (e .slots i a b)
           & ap (λ (x : Slot). x .name) (e .slots i a b)
           & ap (λ (x : Slot). x .interval) (e .slots i a b)
-          & sum-is s h waitOf i (field t 3 i) (λ k. e .lay k .waits i) (λ z. e .loose i a b z .wait)
+          & sum-is s h theWait i (waitOf t i) (λ k. e .lay k .waits i) (λ z. e .loose i a b z .wait)
           & ap (λ (x : Slot). x .routine) (e .slots i a b)
           & ap (λ (x : Slot). x .userData) (e .slots i a b)
-          & sum-is s h nextOf i (field t 6 i)
+          & sum-is s h theNext i (nextOf t i)
           (λ k m. sym (link-field k t i a) ∙ e .lay k .links i (λ _. m) ∙ link-next (chainOf k s) i a) (λ z. e .loose i a b z .next)
-          & sum-is s h previousOf i (field t 7 i) (λ k. e .lay k .previous i) (λ z. e .loose i a b z .previous)
+          & sum-is s h thePrevious i (previousOf t i) (λ k. e .lay k .previous i) (λ z. e .loose i a b z .previous)
           & end)
 
 pub holds-parts : (t : List ℕ) (s : State) → Holds t s → Parts t s
@@ -272,19 +272,19 @@ parts-holds t s h p long = record { is = spelled-over t s (parts-spelled t s h p
 
 -- ---- a chain, link by link
 
-pub difference-total : (k : Chain) (b n : ℕ) → difference k b (total k b n) ≡ n
+pub difference-total : (k : Chain) (b n : ℕ) → difference k b (accumulated k b n) ≡ n
 difference-total ByTicks b n = omega arith
 difference-total ByDate b n = refl
 
-pub total-difference : (k : Chain) (b n : ℕ) → b ≤ n → total k b (difference k b n) ≡ n
+pub total-difference : (k : Chain) (b n : ℕ) → b ≤ n → accumulated k b (difference k b n) ≡ n
 total-difference ByTicks b n p = omega arith
 total-difference ByDate b n p = refl
 
 -- the link w stands in the table t between the slot p, of wait b, and the slot n
 pub record Stands (k : Chain) (t : List ℕ) (p b : ℕ) (w : Link) (n : ℕ) : Type 0 where
-  pub next : field t 6 (w .slot) ≡ n
-  pub previous : field t 7 (w .slot) ≡ p
-  pub wait : field t 3 (w .slot) ≡ difference k b (w .wait)
+  pub next : nextOf t (w .slot) ≡ n
+  pub previous : previousOf t (w .slot) ≡ p
+  pub wait : waitOf t (w .slot) ≡ difference k b (w .wait)
 
 -- the links c of chain k stand in the table t, behind the slot p of wait b
 abbrev pub Linked : Chain → List ℕ → ℕ → ℕ → List Link → Type 0
@@ -293,9 +293,9 @@ Linked k t p b (w ∷ ws) = Stands k t p b w (first ws) × Linked k t (w .slot) 
 
 -- the words of the slot i are those that the links c give it
 record SlotAgrees (k : Chain) (t : List ℕ) (p b : ℕ) (c : List Link) (i : ℕ) : Type 0 where
-  next : field t 6 i ≡ nextIn c i
-  previous : field t 7 i ≡ previousIn p c i
-  wait : field t 3 i ≡ waitIn k b c i
+  next : nextOf t i ≡ nextIn c i
+  previous : previousOf t i ≡ previousIn p c i
+  wait : waitOf t i ≡ waitIn k b c i
 
 agree-linked : (k : Chain) (t : List ℕ) (p b : ℕ) (c : List Link) → ((i : ℕ) → timesIn c i ≤ 1) → ((i : ℕ) → 0 < timesIn c i → SlotAgrees k t p b c i)
     → Linked k t p b c

@@ -15,8 +15,8 @@ use Rattle.model.specs.Lists.{keep, place, All}
 use Rattle.model.specs.Status.{firstOf}
 use Rattle.model.specs.Calls.{Call, layOut, create, ident, cancel, delete, fireAfter, fireWhen, reset, ticksLeft, tick, setClock, getClock, isLayOut}
 use Rattle.model.specs.Kinds.{Chain, ByTicks, ByDate, Mode, After, When, kindAt, chainFor, sameChain, waitsIn, lastMode}
-use Rattle.model.specs.State.{Slot, Link, Clock, State, chainOf, rechain, reclock, free, slotAt, putAt, without, indexOf}
-use Rattle.model.specs.Directives.{refusals, lowestFree, laidOut, stored, unused, stopped, idled, waitingAs, started, firedAll, due, fire, nearer, clockAt, clockStep, effect}
+use Rattle.model.specs.State.{Slot, Link, Clock, State, chainOf, withChain, withClock, free, slotAt, putAt, without, indexOf}
+use Rattle.model.specs.Directives.{refusals, lowestFree, laidOut, stored, neverStarted, stopped, idled, waitingAs, started, firedAll, due, fire, nearer, clockAt, clockStep, effect}
 use Rattle.model.proofs.ListLaws.{cases, clash, all-map, all-keep, all-passed, all-zip, all-place, length-keep}
 use Rattle.model.proofs.Slots.{put-any, length-put, length-firedAll, blank}
 use Rattle.model.proofs.WellFormed.{Chained, Shape, WellFormed}
@@ -24,9 +24,9 @@ use Rattle.model.proofs.Chains.{fit-both}
 use Rattle.model.proofs.KindLaws.{stopped-not-in, timed-started, timed-mode}
 use Rattle.model.proofs.ClockSteps.{clock-isSet, clock-perSecond, clock-into, clock-last, clock-unset}
 use Rattle.model.proofs.Searches.{found}
-use Rattle.model.proofs.Shapes.{free-shape, unused-shape, Some, waiting-shape, idle-shape, shape-firedAll}
-use Rattle.model.proofs.Steps.{rechain-slots, rechain-clock, rechained, stored-chain, stopped-chain, length-laid, length-stored, length-stopped, length-started, length-fire, chained-stored, chained-stopped, chained-started, chained-fire, chained-nearer, chained-reclock, chained-laid}
-use Rattle.model.proofs.Refused.{Named, accepted-facts}
+use Rattle.model.proofs.Shapes.{free-shape, never-started-shape, Some, waiting-shape, idle-shape, shape-firedAll}
+use Rattle.model.proofs.Steps.{with-chain-slots, with-chain-clock, with-chain-each, stored-chain, stopped-chain, length-laid, length-stored, length-stopped, length-started, length-fire, chained-stored, chained-stopped, chained-started, chained-fire, chained-nearer, chained-with-clock, chained-laid}
+use Rattle.model.proofs.AcceptedCalls.{Named, accepted-facts}
 
 -- ---- the parts of well-formedness
 
@@ -81,12 +81,12 @@ formed s chained some clock shape ahead = record {
     no-dates [] e p = refl
     no-dates (w ∷ ws) e p = clash (sym (p .0 .0) ∙ e)
 
-formed-rechain : (k : Chain) (s : State) (slots : List Slot) (l : List Link)
-    → Chained (rechain k s slots l) → 1 ≤ length slots → ClockFormed (s .clock) → ((i : ℕ) → Shape (slotAt slots i)) → AllAhead k (s .clock) l
-    → ((j : Chain) → sameChain j k ≡ false → AllAhead j (s .clock) (chainOf j s)) → WellFormed (rechain k s slots l)
-formed-rechain k s slots l chained some clock shape own rest =
-    formed (rechain k s slots l) chained (rw (rechain-slots s slots l k) some) (rw (rechain-clock s slots l k) clock)
-    (rw (rechain-slots s slots l k) shape) (rw (rechain-clock s slots l k) (rechained s slots l (λ j. AllAhead j (s .clock)) k own rest))
+formed-with-chain : (k : Chain) (s : State) (slots : List Slot) (l : List Link)
+    → Chained (withChain k s slots l) → 1 ≤ length slots → ClockFormed (s .clock) → ((i : ℕ) → Shape (slotAt slots i)) → AllAhead k (s .clock) l
+    → ((j : Chain) → sameChain j k ≡ false → AllAhead j (s .clock) (chainOf j s)) → WellFormed (withChain k s slots l)
+formed-with-chain k s slots l chained some clock shape own rest =
+    formed (withChain k s slots l) chained (rw (with-chain-slots s slots l k) some) (rw (with-chain-clock s slots l k) clock)
+    (rw (with-chain-slots s slots l k) shape) (rw (with-chain-clock s slots l k) (with-chain-each s slots l (λ j. AllAhead j (s .clock)) k own rest))
 
 -- ---- lay out
 
@@ -130,7 +130,7 @@ module _ (s : State) (h : WellFormed s) where
       let k = chainFor m in
       let x : Slot = waitingAs m (slotAt (s .slots) i) amount r u in
       let new : Link = record { slot = i; wait = amount } in
-      formed-rechain k (stopped s i x) (putAt (s .slots) i x) (place (λ w. w .wait) new (chainOf k (stopped s i x)))
+      formed-with-chain k (stopped s i x) (putAt (s .slots) i x) (place (λ w. w .wait) new (chainOf k (stopped s i x)))
       (chained-started m s (h .chained) i amount r u low high)
       (some-put i x) (clock-formed s h)
       (shape-put i x (waiting-shape m (slotAt (s .slots) i) amount r u name routine some))
@@ -147,7 +147,7 @@ formed-fired s chained some clock shape rest dates =
     let now = s .clock .second in
     let after : Link → Bool = λ w. ltb now (w .wait) in
     let later = keep after (s .dated) in
-    formed-rechain ByDate s (firedAll (due ByDate now s) (s .slots)) later
+    formed-with-chain ByDate s (firedAll (due ByDate now s) (s .slots)) later
     (chained-fire ByDate now s chained) (omega (arith, length-firedAll (due ByDate now s) (s .slots))) clock
     (shape-firedAll (due ByDate now s) (s .slots) shape)
     (all-map (λ w p. (p .1 .0, ltb-true now (w .wait) (p .0), p .1 .1)) later
@@ -169,27 +169,27 @@ module _ (s : State) (h : WellFormed s) where
   formed-ticked list =
       let near = nearer s in
       let clock = clockStep (s .clock) in
-      formed-fired (reclock (fire ByTicks 0 near) clock)
-      (chained-reclock (fire ByTicks 0 near) clock (chained-fire ByTicks 0 near (chained-nearer s (h .chained))))
+      formed-fired (withClock (fire ByTicks 0 near) clock)
+      (chained-with-clock (fire ByTicks 0 near) clock (chained-fire ByTicks 0 near (chained-nearer s (h .chained))))
       (omega (arith, length-firedAll (due ByTicks 0 near) (s .slots), h .some-slot))
       (step-formed (s .clock) (clock-formed s h))
       (shape-firedAll (due ByTicks 0 near) (s .slots) (h .shape))
       rest
       (all-map (λ w p. (clock-isSet (s .clock) ∙ p .0, p .2)) (s .dated) (all-ahead s h ByDate))
     where
-      rest : (k : Chain) → sameChain k ByDate ≡ false → AllAhead k (clockStep (s .clock)) (chainOf k (reclock (fire ByTicks 0 (nearer s)) (clockStep (s .clock))))
+      rest : (k : Chain) → sameChain k ByDate ≡ false → AllAhead k (clockStep (s .clock)) (chainOf k (withClock (fire ByTicks 0 (nearer s)) (clockStep (s .clock))))
       rest ByTicks e =
           all-map (λ w p. ltb-true 0 (w .wait) p) (keep (λ w. ltb 0 (w .wait)) (nearer s .ticking)) (all-passed (λ w. ltb 0 (w .wait)) (nearer s .ticking))
       rest ByDate e = clash e
 
-  formed-clock-set : (second : ℕ) → second ≤ lastSecond → WellFormed (fire ByDate second (reclock s (clockAt (s .clock) second 0)))
+  formed-clock-set : (second : ℕ) → second ≤ lastSecond → WellFormed (fire ByDate second (withClock s (clockAt (s .clock) second 0)))
   formed-clock-set second last =
       let clock = clockAt (s .clock) second 0 in
-      formed-fired (reclock s clock) (chained-reclock s clock (h .chained)) (h .some-slot)
+      formed-fired (withClock s clock) (chained-with-clock s clock (h .chained)) (h .some-slot)
       (record { per-low = h .per-low; per-high = h .per-high; into = h .per-low; second-high = last; unset = λ e. clash e })
       (h .shape) rest (all-map (λ w p. (refl, p .1)) (s .dated) (h .dates))
     where
-      rest : (k : Chain) → sameChain k ByDate ≡ false → AllAhead k (clockAt (s .clock) second 0) (chainOf k (reclock s (clockAt (s .clock) second 0)))
+      rest : (k : Chain) → sameChain k ByDate ≡ false → AllAhead k (clockAt (s .clock) second 0) (chainOf k (withClock s (clockAt (s .clock) second 0)))
       rest ByTicks e = h .ticks
       rest ByDate e = clash e
 
@@ -206,8 +206,8 @@ module _ (s : State) (h : WellFormed s) where
     kept (create name) e =
         let p = accepted-facts words s (create name) e in
         let at = found (λ x. eqb (x .kind) 0) (s .slots) (p .1) in
-        formed-stored s h (lowestFree s) (unused name) (at .low) (at .high) (eqb-true (slotAt (s .slots) (lowestFree s) .kind) 0 (at .passes))
-        (λ k. refl) (unused-shape name (p .0))
+        formed-stored s h (lowestFree s) (neverStarted name) (at .low) (at .high) (eqb-true (slotAt (s .slots) (lowestFree s) .kind) 0 (at .passes))
+        (λ k. refl) (never-started-shape name (p .0))
     kept (ident name) e = h
     kept (cancel id) e =
         let is = accepted-facts words s (cancel id) e in
@@ -244,7 +244,7 @@ module _ (s : State) where
   -- every call but lay out leaves as many slots as there were
   pub slots-kept : (c : Call) → isLayOut c ≡ false → length (effect s c .state .slots) ≡ length (s .slots)
   slots-kept (layOut n t) l = clash l
-  slots-kept (create name) l = length-stored s (lowestFree s) (unused name)
+  slots-kept (create name) l = length-stored s (lowestFree s) (neverStarted name)
   slots-kept (ident name) l = refl
   slots-kept (cancel id) l = length-stopped s (indexOf id) (idled (slotAt (s .slots) (indexOf id)))
   slots-kept (delete id) l = length-stopped s (indexOf id) free
@@ -256,8 +256,8 @@ module _ (s : State) where
   slots-kept (ticksLeft id) l = refl
   slots-kept (tick list) l =
       let clock = clockStep (s .clock) in
-      length-fire ByDate (clock .second) (reclock (fire ByTicks 0 (nearer s)) clock) ∙ length-fire ByTicks 0 (nearer s)
-  slots-kept (setClock w list) l = length-fire ByDate (secondsOf w) (reclock s (clockAt (s .clock) (secondsOf w) 0))
+      length-fire ByDate (clock .second) (withClock (fire ByTicks 0 (nearer s)) clock) ∙ length-fire ByTicks 0 (nearer s)
+  slots-kept (setClock w list) l = length-fire ByDate (secondsOf w) (withClock s (clockAt (s .clock) (secondsOf w) 0))
   slots-kept getClock l = refl
 
   -- no call fires more timers than there are slots
