@@ -11,11 +11,8 @@ use Rattle.model.specs.Words.{read, slotCount}
 use Rattle.model.proofs.ReadBack.{slots-length}
 
 module _ (t list : List ℕ) where
-  pub too-short : {n : ℕ} → n ≡ 3 * slotCount t → length list < n → isShort (read t) list ≡ true
-  too-short e h = lt-ltb (length list) (3 * length (read t .slots)) (omega (arith, slots-length t))
-
-  pub long-enough : {n : ℕ} → n ≡ 3 * slotCount t → n ≤ length list → 3 * slotCount t ≤ length list
-  long-enough e h = omega arith
+  pub too-short : length list < 3 * slotCount t → isShort (read t) list ≡ true
+  too-short h = lt-ltb (length list) (3 * length (read t .slots)) (omega (arith, slots-length t))
 
   pub not-short : 3 * slotCount t ≤ length list → isShort (read t) list ≡ false
   not-short h = le-ltb (length list) (3 * length (read t .slots)) (omega (arith, slots-length t))

@@ -2,10 +2,11 @@
 // (answers/specs/Answers.antt) say what get clock's answer is in document 01's numbers.
 ghost use mathlib.Core.Path.{_≡_};
 ghost use mathlib.Core.List.{[]};
-ghost use Prim.Native.Nat.{_*_, _≤_};
 ghost use Rattle.model.specs.Calls as call;
 ghost use Rattle.model.specs.Outcome.{outcomeOf, outcome};
 ghost use Rattle.answers.specs.Answers.{statusOf, answerOf, readingStatus, readingAnswer};
+ghost use Rattle.answers.specs.Openings.{Opens};
+ghost use Rattle.clock.specs.Lent.{onList, Lent};
 use answers::Answer;
 use answers::Reading;
 use calendar::Date;
@@ -20,24 +21,27 @@ use model::Status;
 use soundness::is_sound;
 use table::*;
 
-// The words of a fired list for so many slots.
-fn list_words(slots: u32) -> usize
-    requires { ⌜ slots ≤ 255 ⌝ }
-    ensures { λ r. ⌜ r ≡ 3 * slots ⌝ }
+// The lent list has room for every slot; refused where the table is not sound or the list is too short.
+fn open_list(table: &[u32], fired: &[u32]) -> Answer
+    ensures { λ r. ⌜ Opens (onList (now (table .entry)) (now (fired .entry))) (λ _. Lent (now (table .entry)) (now (fired .entry))) r ⌝ }
 {
-    ENTRY * (slots as usize)
+    if !is_sound(table) {
+        return Answer::Refused(Status::NotSound);
+    }
+    if fired.len() < ENTRY * (table[SLOT_COUNT] as usize) {
+        return Answer::Refused(Status::ListTooShort);
+    }
+    Answer::Done(0)
 }
 
 // One tick: interval timers come nearer and those due fire; then the clock goes on and dated timers that are due fire. Answers how many.
 pub fn tick(table: &mut [u32], fired: &mut [u32]) -> Answer
     ensures { λ r. ⌜ outcomeOf (statusOf r) (answerOf r) (now (table .exit)) (now (fired .exit)) ≡ outcome (now (table .entry)) (call.tick (now (fired .entry))) ⌝ }
 {
-    if !is_sound(table) {
-        return Answer::Refused(Status::NotSound);
-    }
-    if fired.len() < list_words(table[SLOT_COUNT]) {
-        return Answer::Refused(Status::ListTooShort);
-    }
+    let opened = open_list(table, fired);
+    let Answer::Done(_) = opened else {
+        return opened;
+    };
     come_nearer(table);
     let ticked = fire(table, fired, Chain::ByTicks, 0, 0);
     step_clock(table);
@@ -50,12 +54,10 @@ pub fn tick(table: &mut [u32], fired: &mut [u32]) -> Answer
 pub fn set_clock(table: &mut [u32], time: WallTime, fired: &mut [u32]) -> Answer
     ensures { λ r. ⌜ outcomeOf (statusOf r) (answerOf r) (now (table .exit)) (now (fired .exit)) ≡ outcome (now (table .entry)) (call.setClock time (now (fired .entry))) ⌝ }
 {
-    if !is_sound(table) {
-        return Answer::Refused(Status::NotSound);
-    }
-    if fired.len() < list_words(table[SLOT_COUNT]) {
-        return Answer::Refused(Status::ListTooShort);
-    }
+    let opened = open_list(table, fired);
+    let Answer::Done(_) = opened else {
+        return opened;
+    };
     let Instant::Second(second) = calendar::to_seconds(time) else {
         return Answer::Refused(Status::InvalidClock);
     };

@@ -13,7 +13,7 @@ use Rattle.model.specs.Directives.{started, effect}
 use Rattle.model.specs.Words.{writtenOver, read, slotFrom, kindOf, intervalOf, routineOf, dataOf}
 use Rattle.model.proofs.ListLaws.{clash}
 use Rattle.model.proofs.ReadBack.{slot-read}
-use Rattle.answers.proofs.Ids.{Named}
+use Rattle.opening.specs.Ids.{Named}
 
 module _ {t : List ℕ} {id i : ℕ} (at : Named t id i) where
   slot-is : slotAt (read t .slots) (indexOf id) ≡ slotFrom t i

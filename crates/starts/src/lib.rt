@@ -11,6 +11,7 @@ use calendar::WallTime;
 use links::start;
 use model::Mode;
 use model::Status;
+use opening::open_timer;
 use slots::named;
 use soundness::is_sound;
 use table::*;
@@ -77,13 +78,10 @@ pub fn fire_when(table: &mut [u32], id: u32, when: WallTime, routine: u32, user_
 pub fn reset(table: &mut [u32], id: u32) -> Answer
     ensures { λ r. ⌜ outcomeOf (statusOf r) (answerOf r) (now (table .exit)) [] ≡ outcome (now (table .entry)) (call.reset id) ⌝ }
 {
-    if !is_sound(table) {
-        return Answer::Refused(Status::NotSound);
-    }
-    let i = named(table, id);
-    if i == 0 {
-        return Answer::Refused(Status::InvalidId);
-    }
+    let opened = open_timer(table, id);
+    let Answer::Done(i) = opened else {
+        return opened;
+    };
     if !was_by_ticks(get(table, i, KIND)) {
         return Answer::Refused(Status::NotDefined);
     }

@@ -20,29 +20,30 @@ use Rattle.links.specs.Places.{InTable}
 use Rattle.links.proofs.NextState.{next-read}
 use Rattle.links.proofs.Restart.{stoppedAt, stop-next, idle-now}
 
--- ---- create and delete, on a sound table
+-- ---- create
 
-module _ (t : List ℕ) (ok : sound t ≡ true) where
-  module _ {i : ℕ} (is : lowestFree (read t) ≡ i) where
-    pub free-in-table : (i ≡ 0 → ⊥) → InTable t i
-    free-in-table some =
-        let f = found (λ x. eqb (x .kind) 0) (read t .slots) (omega (arith, is, some)) in
-        record { holds = sound-holds t ok; low = omega (arith, some); high = omega (arith, f .high, slots-length t, is) }
+module _ (t : List ℕ) (ok : sound t ≡ true) {i : ℕ} (is : lowestFree (read t) ≡ i) where
+  pub free-in-table : (i ≡ 0 → ⊥) → InTable t i
+  free-in-table some =
+      let f = found (λ x. eqb (x .kind) 0) (read t .slots) (omega (arith, is, some)) in
+      record { holds = sound-holds t ok; low = omega (arith, some); high = omega (arith, f .high, slots-length t, is) }
 
-    pub created-is : {u : List ℕ} (name : ℕ) → u ≡ writtenOver (stored (read t) i (neverStarted name)) t → u ≡ writtenOver (stored (read t) (lowestFree (read t)) (neverStarted name)) t
-    created-is name h = h ∙ ap (λ (k : ℕ). writtenOver (stored (read t) k (neverStarted name)) t) (sym is)
+  pub created-is : {u : List ℕ} (name : ℕ) → u ≡ writtenOver (stored (read t) i (neverStarted name)) t → u ≡ writtenOver (stored (read t) (lowestFree (read t)) (neverStarted name)) t
+  created-is name h = h ∙ ap (λ (k : ℕ). writtenOver (stored (read t) k (neverStarted name)) t) (sym is)
 
-  module _ {i : ℕ} (at : InTable t i) {u : List ℕ} (e : u ≡ writtenOver (stoppedAt t i) t) where
-    pub still-in-table : InTable u i
-    still-in-table = idle-now t i at u e .in-table
+-- ---- delete: u is the table after the stop
 
-    pub deleted-is : {v : List ℕ} → v ≡ writtenOver (stored (read u) i free) u → v ≡ writtenOver (stopped (read t) i free) t
-    deleted-is h =
-        let s = stoppedAt t i in
-        h ∙ ap₂ (λ (r : State) (w : List ℕ). writtenOver (stored r i free) w) (next-read (stop-next t i at u e)) e
-        ∙ over-over s (stored s i free) t (length-stored s i free)
-        ∙ ap (λ (l : List Slot). writtenOver (withChain ByTicks (withChain ByDate (read t) l (without i (read t .dated))) l (without i (read t .ticking))) t)
-        (put-put (read t .slots) i (idled (slotAt (read t .slots) i)) free)
+module _ {t : List ℕ} {i : ℕ} (at : InTable t i) {u : List ℕ} (e : u ≡ writtenOver (stoppedAt t i) t) where
+  pub still-in-table : InTable u i
+  still-in-table = idle-now t i at u e .in-table
+
+  pub deleted-is : {v : List ℕ} → v ≡ writtenOver (stored (read u) i free) u → v ≡ writtenOver (stopped (read t) i free) t
+  deleted-is h =
+      let s = stoppedAt t i in
+      h ∙ ap₂ (λ (r : State) (w : List ℕ). writtenOver (stored r i free) w) (next-read (stop-next t i at u e)) e
+      ∙ over-over s (stored s i free) t (length-stored s i free)
+      ∙ ap (λ (l : List Slot). writtenOver (withChain ByTicks (withChain ByDate (read t) l (without i (read t .dated))) l (without i (read t .ticking))) t)
+      (put-put (read t .slots) i (idled (slotAt (read t .slots) i)) free)
 
 -- ---- lay out
 

@@ -14,7 +14,7 @@ use Rattle.model.proofs.ListLaws.{cases}
 use Rattle.model.proofs.WellFormed.{timesIn}
 use Rattle.model.proofs.ReadBack.{slot-read}
 use Rattle.table.proofs.KindTests.{kind-is}
-use Rattle.answers.proofs.Ids.{Named}
+use Rattle.opening.specs.Ids.{Named}
 
 wait-none : (i : ℕ) (l : List Link) → timesIn l i ≡ 0 → waitAt i l ≡ 0
 wait-none i [] e = refl

@@ -15,10 +15,10 @@ use links::stop;
 use links::store;
 use links::ticks_to;
 use model::Status;
+use opening::open_timer;
 use slots::ID_BASE;
 use slots::clear;
 use slots::find;
-use slots::named;
 use soundness::is_sound;
 use table::*;
 
@@ -94,13 +94,10 @@ pub fn ident(table: &[u32], name: u32) -> Answer
 pub fn cancel(table: &mut [u32], id: u32) -> Answer
     ensures { λ r. ⌜ outcomeOf (statusOf r) (answerOf r) (now (table .exit)) [] ≡ outcome (now (table .entry)) (call.cancel id) ⌝ }
 {
-    if !is_sound(table) {
-        return Answer::Refused(Status::NotSound);
-    }
-    let i = named(table, id);
-    if i == 0 {
-        return Answer::Refused(Status::InvalidId);
-    }
+    let opened = open_timer(table, id);
+    let Answer::Done(i) = opened else {
+        return opened;
+    };
     stop(table, i);
     Answer::Done(0)
 }
@@ -109,13 +106,10 @@ pub fn cancel(table: &mut [u32], id: u32) -> Answer
 pub fn delete(table: &mut [u32], id: u32) -> Answer
     ensures { λ r. ⌜ outcomeOf (statusOf r) (answerOf r) (now (table .exit)) [] ≡ outcome (now (table .entry)) (call.delete id) ⌝ }
 {
-    if !is_sound(table) {
-        return Answer::Refused(Status::NotSound);
-    }
-    let i = named(table, id);
-    if i == 0 {
-        return Answer::Refused(Status::InvalidId);
-    }
+    let opened = open_timer(table, id);
+    let Answer::Done(i) = opened else {
+        return opened;
+    };
     stop(table, i);
     store(table, i, FREE, 0);
     Answer::Done(0)
@@ -125,13 +119,10 @@ pub fn delete(table: &mut [u32], id: u32) -> Answer
 pub fn ticks_left(table: &[u32], id: u32) -> Answer
     ensures { λ r. ⌜ outcomeOf (statusOf r) (answerOf r) (now (table .entry)) [] ≡ outcome (now (table .entry)) (call.ticksLeft id) ⌝ }
 {
-    if !is_sound(table) {
-        return Answer::Refused(Status::NotSound);
-    }
-    let i = named(table, id);
-    if i == 0 {
-        return Answer::Refused(Status::InvalidId);
-    }
+    let opened = open_timer(table, id);
+    let Answer::Done(i) = opened else {
+        return opened;
+    };
     if get(table, i, KIND) != WAITING_TICKS {
         return Answer::Done(0);
     }

@@ -10,7 +10,8 @@ use Rattle.model.specs.declared.Status.the-variants.{InvalidId, InvalidAddress,
 use Rattle.model.specs.Directives.{started}
 use Rattle.model.specs.Words.{read}
 use Rattle.answers.proofs.Replies.{Tested, tested, not-same, refuses, done}
-use Rattle.answers.proofs.Ids.{Named, named, unknown, at-index}
+use Rattle.opening.specs.Ids.{Named}
+use Rattle.opening.proofs.Ids.{named, unknown, at-index}
 use Rattle.starts.proofs.fire_after.Statement.{statement}
 use Rattle.starts.proofs.fire_after.Tie as tie
 

@@ -12,7 +12,8 @@ use Rattle.model.specs.Directives.{notAhead}
 use Rattle.model.specs.Words.{read, seconds}
 use Rattle.model.proofs.SoundHolds.{sound-header}
 use Rattle.answers.proofs.Replies.{Tested, tested, not-same, refuses, done, clock-unset, clock-running}
-use Rattle.answers.proofs.Ids.{Named, named, unknown}
+use Rattle.opening.specs.Ids.{Named}
+use Rattle.opening.proofs.Ids.{named, unknown}
 use Rattle.starts.proofs.Dates.{not-a-date, past-date, later-date, dated-is}
 use Rattle.starts.proofs.fire_when.Statement.{statement}
 use Rattle.starts.proofs.fire_when.Tie as tie

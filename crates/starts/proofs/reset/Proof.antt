@@ -5,107 +5,97 @@ use mathlib.Core.List.{List, [], _∷_}
 use mathlib.Core.Path.{refl}
 use Prim.Native.Nat.{ℕ}
 use native.Mathlib.Omega.{arith}
-use Rattle.model.specs.declared.Status.the-variants.{InvalidId, NotDefined, NotSound}
-use Rattle.answers.proofs.Replies.{Tested, tested, not-same, refuses, done}
-use Rattle.answers.proofs.Ids.{Named, named, unknown}
+use Rattle.model.specs.declared.Status.the-variants.{NotDefined}
+use Rattle.answers.proofs.Replies.{not-same, refuses, done}
+use Rattle.answers.proofs.Openings.{refuses-as}
+use Rattle.opening.specs.Ids.{Named}
 use Rattle.starts.proofs.Stored.{timed, reset-is}
 use Rattle.starts.proofs.reset.Statement.{statement}
 use Rattle.starts.proofs.reset.Tie as tie
 
--- ---- the table is sound
-
-abbrev t : tie.Else1 → List ℕ
-t b = b .before .before .before .before .args .table .now
-
-sure : (b : tie.Else1) → Tested (t b)
-sure b = tested (b .before .is-sound .ensures) (b .if1 .left)
-
 -- ---- the id names a slot
 
-abbrev found : tie.Else2 → tie.Else1
-found d = d .before .before .before
+module _ (o : tie.After-opened) where
+  abbrev t : List ℕ
+  t = o .before .before .before .before .before .args .table .now
 
-at : (d : tie.Else2) → Named (t (found d)) (found d .before .before .before .before .args .id) (d .before .named .result)
-at d = named (sure (found d) .ok) (d .before .named .ensures) (d .if2 .left)
+  at : Named t (o .before .before .before .before .before .args .id) (o .opened .given .0 .0)
+  at = o .before .before .open-timer .ensures .holds _ (o .opened .given .1)
 
 -- ---- the needs
 
-is-sound-requires : tie.Need-is-sound-requires
-is-sound-requires c κs = search needs
+open-timer-requires : tie.Need-open-timer-requires
+open-timer-requires c κs = search needs
+
+enum-known-opened : tie.Need-enum-known-opened
+enum-known-opened c = search needs
+
+enum-told : tie.Need-enum-told
+enum-told c = search needs
 
 same-length : tie.Need-same-length
 same-length c = search needs
 
 returns : tie.Need-returns
-returns c = refuses _ _ NotSound 0 tt (not-same (c .before .is-sound .ensures) (c .if1 .taken)) refl
+returns c = refuses-as _ _ (c .before .before .open-timer .ensures) (c .enum-told .given .1) _ refl refl
 
-named-requires : tie.Need-named-requires
-named-requires c κs = sure (c .before) .ok
+get-requires : tie.Need-get-requires
+get-requires c κs = (omega arith, at (c .before .before) .inside)
+
+was-by-ticks-requires : tie.Need-was-by-ticks-requires
+was-by-ticks-requires c κs = search needs
 
 same-length-2 : tie.Need-same-length-2
 same-length-2 c = search needs
 
 returns-2 : tie.Need-returns-2
-returns-2 c = refuses _ _ InvalidId 1 (sure (c .before .before .before) .rule, tt) (unknown _ _ (c .before .named .ensures) (c .if2 .taken)) refl
+returns-2 c =
+    let x = at (c .before .before .before .before .before) in
+    refuses _ _ NotDefined 2 (x .tested, (x .rule, tt))
+    (not-same (timed x (c .before .before .get .ensures) (c .before .was-by-ticks .ensures)) (c .if1 .taken)) refl
 
-get-requires : tie.Need-get-requires
-get-requires c κs = (omega arith, at (c .before) .inside)
+get-requires-2 : tie.Need-get-requires-2
+get-requires-2 c κs = (omega arith, at (c .before .before .before .before .before .before) .inside)
 
-was-by-ticks-requires : tie.Need-was-by-ticks-requires
-was-by-ticks-requires c κs = search needs
+get-requires-3 : tie.Need-get-requires-3
+get-requires-3 c κs = (omega arith, at (c .before .before .before .before .before .before .before .before) .inside)
+
+get-requires-4 : tie.Need-get-requires-4
+get-requires-4 c κs = (omega arith, at (c .before .before .before .before .before .before .before .before .before .before) .inside)
+
+start-requires : tie.Need-start-requires
+start-requires c κs = at (c .before .before .before .before .before .before .before .before .before .before .before .before) .place
 
 same-length-3 : tie.Need-same-length-3
 same-length-3 c = search needs
 
 returns-3 : tie.Need-returns-3
 returns-3 c =
-    let d = c .before .before .before .before in
-    refuses _ _ NotDefined 2 (sure (found d) .rule, (at d .rule, tt))
-    (not-same (timed (at d) (c .before .before .get .ensures) (c .before .was-by-ticks .ensures)) (c .if3 .taken)) refl
-
-get-requires-2 : tie.Need-get-requires-2
-get-requires-2 c κs = (omega arith, at (c .before .before .before .before .before) .inside)
-
-get-requires-3 : tie.Need-get-requires-3
-get-requires-3 c κs = (omega arith, at (c .before .before .before .before .before .before .before) .inside)
-
-get-requires-4 : tie.Need-get-requires-4
-get-requires-4 c κs = (omega arith, at (c .before .before .before .before .before .before .before .before .before) .inside)
-
-start-requires : tie.Need-start-requires
-start-requires c κs = at (c .before .before .before .before .before .before .before .before .before .before .before) .place
-
-same-length-4 : tie.Need-same-length-4
-same-length-4 c = search needs
-
-returns-4 : tie.Need-returns-4
-returns-4 c =
     let user = c .before .before .before .before in
     let routine = user .before .before in
     let ticks = routine .before .before in
     let again = ticks .before .before in
-    let d = again .before .before .before .before in
-    let by-ticks = not-same (timed (at d) (again .before .before .get .ensures) (again .before .was-by-ticks .ensures)) (again .if3 .left) in
-    done _ _ (0 ∷ []) _ [] (sure (found d) .rule, (at d .rule, (by-ticks, tt))) refl
-    (reset-is (at d) (not-false _ by-ticks) (c .before .before .start .ensures) (ticks .get2 .ensures) (routine .get3 .ensures) (user .get4 .ensures)) refl
+    let x = at (again .before .before .before .before .before) in
+    let by-ticks = not-same (timed x (again .before .before .get .ensures) (again .before .was-by-ticks .ensures)) (again .if1 .left) in
+    done _ _ (0 ∷ []) _ [] (x .tested, (x .rule, (by-ticks, tt))) refl
+    (reset-is x (not-false _ by-ticks) (c .before .before .start .ensures) (ticks .get2 .ensures) (routine .get3 .ensures) (user .get4 .ensures)) refl
 
 pub reset-spec : {M : Type 1} → statement M
 reset-spec =
     tie.close
     (tie.spec
-    is-sound-requires
+    open-timer-requires
+    enum-known-opened
+    enum-told
     same-length
     returns
-    named-requires
-    same-length-2
-    returns-2
     get-requires
     was-by-ticks-requires
-    same-length-3
-    returns-3
+    same-length-2
+    returns-2
     get-requires-2
     get-requires-3
     get-requires-4
     start-requires
-    same-length-4
-    returns-4)
+    same-length-3
+    returns-3)

@@ -1,28 +1,22 @@
--- The slot that an id names: what its rule says, where it is, and that its words are in the slice. Assumes nothing.
+-- The slot that an id names, from what the search for it answered. Assumes nothing.
 use mathlib.Core.Path.{_≡_, ap, _∙_}
-use Prim.Native.Nat.{ℕ, _+_, _*_, _≤_}
+use Prim.Native.Nat.{ℕ}
 use native.Mathlib.Omega.{arith}
-use mathlib.Core.Bool.{true, false, not}
+use mathlib.Core.Bool.{true, not}
 use mathlib.Core.List.{List}
-use lib.ListN.{length}
 use Rattle.model.specs.State.{State, indexOf, names}
 use Rattle.model.specs.Words.{writtenOver, read}
 use Rattle.model.specs.Sound.{sound}
 use Rattle.model.proofs.SoundHolds.{sound-holds, sound-header}
-use Rattle.links.specs.Places.{InTable}
 use Rattle.slots.specs.Search.{namedSlot}
 use Rattle.slots.proofs.Laws.{named-some, named-none}
-
-pub record Named (t : List ℕ) (id i : ℕ) : Type 0 where
-  pub rule : not (names (read t) id) ≡ false
-  pub index : i ≡ indexOf id
-  pub place : InTable t i
-  pub inside : 8 * i + 10 ≤ length t
+use Rattle.opening.specs.Ids.{Named}
 
 pub named : {t : List ℕ} {id i : ℕ} → sound t ≡ true → i ≡ namedSlot t id → (i ≡ 0 → ⊥) → Named t id i
 named {t} {id} {i} ok e some =
     let m = named-some t id i e some in
     record {
+      tested = ap not ok;
       rule = ap not (m .names-one);
       index = m .index;
       place = record { holds = sound-holds t ok; low = m .low; high = m .high };
