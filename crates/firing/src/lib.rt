@@ -12,7 +12,7 @@ ghost use Rattle.model.specs.Sound.{sound};
 ghost use Rattle.model.proofs.WellFormed.{Holds};
 ghost use Rattle.links.specs.Places.{InTable};
 ghost use Rattle.firing.specs.Lists.{Room, FiresOne, Fires};
-use links::follower;
+use chains::follower;
 use links::stop;
 use model::Chain;
 use slots::ID_BASE;

@@ -22,10 +22,10 @@ use Rattle.table.proofs.KindTests.{not-in}
 use Rattle.model.proofs.StateWords.{holds-parts, Linked, holds-linked}
 use Rattle.model.proofs.ReadBack.{slots-length, slot-read}
 use Rattle.model.proofs.Steps.{chained-stopped}
-use Rattle.links.specs.EditedWords.{fieldWord, relinked, waitWithout, extractedWords, Extractable}
+use Rattle.chains.specs.EditedWords.{fieldWord, relinked, waitWithout, extractedWords, Extractable}
 use Rattle.links.specs.Places.{lastSlot, lastWait, InTable}
 use Rattle.links.proofs.LinkInMiddle.{times-at, Split, split, all-mid, sorted-next, linked-back, mid-stands, mid-once, mid-apart, mid-within, mid-sorted, last-low}
-use Rattle.links.proofs.EditedWords.{wait-without-none, wait-without-ticks, wait-without-date, edit-set, relinked-edit}
+use Rattle.chains.proofs.EditedWords.{wait-without-none, wait-without-ticks, wait-without-date, edit-set, relinked-edit}
 use Rattle.links.proofs.Relinked.{times-but, Around, own-within, own-not-last, own-not-first, last-high, first-high, behind-within, led-front, led-back, edited}
 
 -- ---- one chain

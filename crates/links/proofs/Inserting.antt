@@ -21,10 +21,12 @@ use Rattle.model.proofs.WellFormed.{timesIn, Holds}
 use Rattle.model.proofs.Chains.{without-none, once, once-apart, met-in-range}
 use Rattle.model.proofs.StateWords.{holds-parts, Linked}
 use Rattle.model.proofs.Steps.{chained-started}
-use Rattle.links.specs.EditedWords.{relinked, waitBehind, insertedWords, Insertable, timerPut}
+use Rattle.chains.specs.EditedWords.{relinked, waitBehind, insertedWords, Insertable}
 use Rattle.links.specs.Places.{upTo, beyond, lastSlot, lastWait, At, IdleInTable}
+use Rattle.links.specs.TimerWords.{timerPut}
 use Rattle.links.proofs.LinkInMiddle.{times-at}
-use Rattle.links.proofs.EditedWords.{wait-behind-ticks, wait-behind-date, relinked-edit, timer-put-edit}
+use Rattle.links.proofs.TimerWords.{timer-put-edit}
+use Rattle.chains.proofs.EditedWords.{wait-behind-ticks, wait-behind-date, relinked-edit}
 use Rattle.links.proofs.Relinked.{times-but, Around, own-not-last, own-not-first, last-high, first-high, behind-within, Led, led-tail, holds-led, led-front, led-back, edited}
 use Rattle.links.proofs.Extracting.{in-slots, in-none}
 

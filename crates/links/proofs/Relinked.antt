@@ -25,7 +25,7 @@ use Rattle.model.proofs.StateWords.{headWords, linkWord, link-field, Lay, Loose
 use Rattle.model.proofs.Steps.{with-chain-slots, with-chain-clock, with-chain-own, with-chain-apart, with-chain-each}
 use Rattle.links.specs.Places.{lastSlot, lastWait}
 use Rattle.links.proofs.LinkInMiddle.{times-more, times-mid, times-at}
-use Rattle.links.proofs.EditedWords.{head-low, Edit, slotOf, own-slot, kept, kept-link, kept-head, kept-rest}
+use Rattle.chains.proofs.EditedWords.{head-low, Edit, slotOf, own-slot, kept, kept-link, kept-head, kept-rest}
 
 -- ---- neighbours
 

@@ -10,8 +10,9 @@ use Rattle.model.specs.Directives.{stored}
 use Rattle.model.specs.Words.{slotWords, allSlots, writtenOver, read}
 use Rattle.model.proofs.StateWords.{headWords}
 use Rattle.model.proofs.ReadBack.{slots-length}
-use Rattle.links.specs.EditedWords.{fieldWord, timerPut}
+use Rattle.chains.specs.EditedWords.{fieldWord}
 use Rattle.links.specs.Places.{InTable}
+use Rattle.links.specs.TimerWords.{timerPut}
 
 -- the words of the slot x, at word m of l and those behind it
 abbrev spelt : List ℕ → ℕ → Slot → List ℕ

@@ -1,2 +1,2 @@
-pub mod EditedWords
 pub mod Places
+pub mod TimerWords

@@ -3,7 +3,8 @@ use mathlib.Core.Path.{ap, _∙_}
 use mathlib.Core.List.{List}
 use Prim.Native.Nat.{ℕ}
 use lib.ListN.{set}
-use Rattle.links.specs.EditedWords.{fieldWord, timerPut}
+use Rattle.chains.specs.EditedWords.{fieldWord}
+use Rattle.links.specs.TimerWords.{timerPut}
 use borrow.Author.Needs.{needs}
 use Rattle.links.proofs.put_timer.Statement.{statement}
 use Rattle.links.proofs.put_timer.Tie as tie

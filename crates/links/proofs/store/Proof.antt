@@ -3,7 +3,7 @@ use mathlib.Core.Path.{ap}
 use native.Mathlib.Omega.{arith}
 use lib.ListN.{length, length-set}
 use borrow.Author.Needs.{needs}
-use Rattle.links.specs.EditedWords.{fieldWord}
+use Rattle.chains.specs.EditedWords.{fieldWord}
 use Rattle.links.proofs.Extracting.{in-words}
 use Rattle.links.proofs.Storing.{store-words}
 use Rattle.links.proofs.store.Statement.{statement}

@@ -1,9 +1,9 @@
--- `links::put_next` meets its contract, by the two cases of the linking word. Assumes nothing.
+-- `chains::put_next` meets its contract, by the two cases of the linking word. Assumes nothing.
 use native.Mathlib.Omega.{arith}
 use borrow.Author.Needs.{needs}
-use Rattle.links.proofs.EditedWords.{head-low, link-none, link-some}
-use Rattle.links.proofs.put_next.Statement.{statement}
-use Rattle.links.proofs.put_next.Tie as tie
+use Rattle.chains.proofs.EditedWords.{head-low, link-none, link-some}
+use Rattle.chains.proofs.put_next.Statement.{statement}
+use Rattle.chains.proofs.put_next.Tie as tie
 
 head-word-requires : tie.Need-head-word-requires
 head-word-requires c κs = search needs

@@ -1,5 +1,5 @@
--- The words that change where a slot goes into a chain or out of it: what the private functions of this crate promise. A reader need not
--- believe these: the public contracts speak of the model's state. Assumes nothing: these are definitions.
+-- The words that change where a slot goes into a chain or out of it: what the functions of this crate promise. A reader need not believe
+-- these: the contracts of the crates above speak of the model's state. Assumes nothing: these are definitions.
 use mathlib.Core.Path.{_≡_}
 use Prim.Native.Nat.{ℕ, zero, suc, _+_, _-_, _*_, _≤_, _<_}
 use mathlib.Core.List.{List}
@@ -59,8 +59,3 @@ pub record Insertable (k : Chain) (t : List ℕ) (p i w : ℕ) : Type 0 where
   pub before : 8 * p + 10 ≤ length t
   pub behind : 8 * word t (linkWord k p) + 10 ≤ length t
   pub fits : k ≡ ByTicks → 0 < word t (linkWord k p) → w ≤ waitOf t (word t (linkWord k p))
-
--- kind, interval, routine and user data of slot i
-unfoldable pub timerPut : List ℕ → ℕ → ℕ → ℕ → ℕ → ℕ → List ℕ
-timerPut t i kind interval routine userData =
-    set (set (set (set t (fieldWord i 0) kind) (fieldWord i 2) interval) (fieldWord i 4) routine) (fieldWord i 5) userData

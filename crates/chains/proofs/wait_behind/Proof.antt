@@ -1,10 +1,10 @@
--- `links::wait_behind` meets its contract, by its three cases: no slot, and a slot of either chain. Assumes nothing.
+-- `chains::wait_behind` meets its contract, by its three cases: no slot, and a slot of either chain. Assumes nothing.
 use native.Mathlib.Omega.{arith}
 use mathlib.Core.Path.{sym, _∙_}
 use borrow.Author.Needs.{needs}
-use Rattle.links.proofs.EditedWords.{wait-behind-ticks, wait-behind-date}
-use Rattle.links.proofs.wait_behind.Statement.{statement}
-use Rattle.links.proofs.wait_behind.Tie as tie
+use Rattle.chains.proofs.EditedWords.{wait-behind-ticks, wait-behind-date}
+use Rattle.chains.proofs.wait_behind.Statement.{statement}
+use Rattle.chains.proofs.wait_behind.Tie as tie
 
 returns : tie.Need-returns
 returns c = search needs

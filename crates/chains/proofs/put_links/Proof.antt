@@ -1,12 +1,12 @@
--- `links::put_links` meets its contract: its three stores in order. Assumes nothing.
+-- `chains::put_links` meets its contract: its three stores in order. Assumes nothing.
 use mathlib.Core.Path.{ap, _∙_}
 use mathlib.Core.List.{List}
 use Prim.Native.Nat.{ℕ}
 use lib.ListN.{set}
-use Rattle.links.specs.EditedWords.{fieldWord, linksPut}
+use Rattle.chains.specs.EditedWords.{fieldWord, linksPut}
 use borrow.Author.Needs.{needs}
-use Rattle.links.proofs.put_links.Statement.{statement}
-use Rattle.links.proofs.put_links.Tie as tie
+use Rattle.chains.proofs.put_links.Statement.{statement}
+use Rattle.chains.proofs.put_links.Tie as tie
 
 put-requires : tie.Need-put-requires
 put-requires c κs = search needs

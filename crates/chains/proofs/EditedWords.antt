@@ -16,7 +16,7 @@ use Rattle.model.specs.Words.{word, field, headWord, slotFrom, kindOf, nameOf, 
 use Rattle.model.proofs.ListLaws.{cases}
 use Rattle.model.proofs.EachPlace.{end, _&_, each-at}
 use Rattle.model.proofs.StateWords.{linkWord}
-use Rattle.links.specs.EditedWords.{fieldWord, followerPut, linksPut, relinked, waitWithout, waitBehind, timerPut}
+use Rattle.chains.specs.EditedWords.{fieldWord, followerPut, linksPut, relinked, waitWithout, waitBehind}
 
 -- ---- where words stand
 
@@ -205,17 +205,6 @@ module _ (k : Chain) (t : List ℕ) (p l n q v i : ℕ) (low : 0 < i) (not-befor
     unfolding relinked linksPut
     relinked-edit =
         edit-set 7 y (omega arith) (omega arith) (edit-set 6 x (omega arith) (omega arith) (edit-set 3 w (omega arith) (omega arith) follower-put-edit))
-
--- kind, interval, routine and user data of the slot
-pub timer-put-edit : {k : Chain} {t u : List ℕ} {p l n q v i : ℕ} {ws : List ℕ} (a b c d : ℕ) → length ws ≡ 8 → Edit k t u p l n q v i ws
-    → Edit k t (timerPut u i a b c d) p l n q v i (set (set (set (set ws 0 a) 2 b) 4 c) 5 d)
-unfolding timerPut
-timer-put-edit {ws = ws} a b c d e h =
-    let l0 = length-set ws 0 a in
-    let l2 = length-set (set ws 0 a) 2 b in
-    let l4 = length-set (set (set ws 0 a) 2 b) 4 c in
-    edit-set 5 d (omega arith) (omega arith) (edit-set 4 c (omega arith) (omega arith)
-    (edit-set 2 b (omega arith) (omega arith) (edit-set 0 a (omega arith) (omega arith) h)))
 
 -- ---- what an edit makes of the slot, and what it keeps
 

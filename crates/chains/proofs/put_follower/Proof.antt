@@ -1,13 +1,13 @@
--- `links::put_follower` meets its contract, by its two cases. Assumes nothing.
+-- `chains::put_follower` meets its contract, by its two cases. Assumes nothing.
 use borrow.Author.Needs.{needs}
 use mathlib.Core.Path.{sym, ap, _∙_}
 use mathlib.Core.List.{List}
 use Prim.Native.Nat.{ℕ}
 use lib.ListN.{set}
-use Rattle.links.specs.EditedWords.{fieldWord}
-use Rattle.links.proofs.EditedWords.{follower-put-none, follower-put-some}
-use Rattle.links.proofs.put_follower.Statement.{statement}
-use Rattle.links.proofs.put_follower.Tie as tie
+use Rattle.chains.specs.EditedWords.{fieldWord}
+use Rattle.chains.proofs.EditedWords.{follower-put-none, follower-put-some}
+use Rattle.chains.proofs.put_follower.Statement.{statement}
+use Rattle.chains.proofs.put_follower.Tie as tie
 
 returns : tie.Need-returns
 returns c = let a = c .before .before .args in rw (follower-put-none (a .t .now) (a .n) (a .q) (a .v) (c .if1 .taken))

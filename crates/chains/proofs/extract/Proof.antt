@@ -1,9 +1,9 @@
--- `links::extract` meets its contract: `extractedWords` is what its steps do, with what was read before them. Assumes nothing.
+-- `chains::extract` meets its contract: `extractedWords` is what its steps do, with what was read before them. Assumes nothing.
 use mathlib.Core.Path.{_∙_}
-use Rattle.links.proofs.EditedWords.{relinked-by}
+use Rattle.chains.proofs.EditedWords.{relinked-by}
 use borrow.Author.Needs.{needs}
-use Rattle.links.proofs.extract.Statement.{statement}
-use Rattle.links.proofs.extract.Tie as tie
+use Rattle.chains.proofs.extract.Statement.{statement}
+use Rattle.chains.proofs.extract.Tie as tie
 
 get-requires : tie.Need-get-requires
 get-requires c κs = search needs

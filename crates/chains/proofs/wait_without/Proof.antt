@@ -1,10 +1,10 @@
--- `links::wait_without` meets its contract, by its three cases: no slot, and a slot of either chain. Assumes nothing.
+-- `chains::wait_without` meets its contract, by its three cases: no slot, and a slot of either chain. Assumes nothing.
 use native.Mathlib.Omega.{arith}
 use mathlib.Core.Path.{sym, _∙_}
 use borrow.Author.Needs.{needs}
-use Rattle.links.proofs.EditedWords.{wait-without-ticks, wait-without-date}
-use Rattle.links.proofs.wait_without.Statement.{statement}
-use Rattle.links.proofs.wait_without.Tie as tie
+use Rattle.chains.proofs.EditedWords.{wait-without-ticks, wait-without-date}
+use Rattle.chains.proofs.wait_without.Statement.{statement}
+use Rattle.chains.proofs.wait_without.Tie as tie
 
 returns : tie.Need-returns
 returns c = search needs

@@ -1,10 +1,10 @@
--- `links::follower` meets its contract: next of a slot, and the chain's first where there is none, by the two cases of the linking word.
+-- `chains::follower` meets its contract: next of a slot, and the chain's first where there is none, by the two cases of the linking word.
 -- Assumes nothing.
 use native.Mathlib.Omega.{arith}
 use borrow.Author.Needs.{needs}
-use Rattle.links.proofs.EditedWords.{head-low, link-none, link-some}
-use Rattle.links.proofs.follower.Statement.{statement}
-use Rattle.links.proofs.follower.Tie as tie
+use Rattle.chains.proofs.EditedWords.{head-low, link-none, link-some}
+use Rattle.chains.proofs.follower.Statement.{statement}
+use Rattle.chains.proofs.follower.Tie as tie
 
 get-requires : tie.Need-get-requires
 get-requires c κs = search needs

@@ -1,9 +1,9 @@
--- `links::insert` meets its contract: `insertedWords` is what its steps do, with what was read before them. Assumes nothing.
+-- `chains::insert` meets its contract: `insertedWords` is what its steps do, with what was read before them. Assumes nothing.
 use mathlib.Core.Path.{_∙_}
-use Rattle.links.proofs.EditedWords.{relinked-by}
+use Rattle.chains.proofs.EditedWords.{relinked-by}
 use borrow.Author.Needs.{needs}
-use Rattle.links.proofs.insert.Statement.{statement}
-use Rattle.links.proofs.insert.Tie as tie
+use Rattle.chains.proofs.insert.Statement.{statement}
+use Rattle.chains.proofs.insert.Tie as tie
 
 follower-requires : tie.Need-follower-requires
 follower-requires c κs = search needs
