@@ -23,9 +23,10 @@
  * machine's own byte order and hold no address, so a table may be moved or copied between calls.
  *
  * A table is sound when its words fit together: numbers within the limits above, each waiting timer exactly once in the
- * chain of its kind, links the same from either end, ticks left up to the interval, dates after the present second. One
- * that was never laid out is refused with HC_NOT_SOUND, and so is one whose words something else has put out of order.
- * The whole rule is `sound` in crates/model/specs/Sound.antt.
+ * chain of its kind, links the same from either end, ticks left up to the interval, dates after the present second. Any
+ * other table is refused with HC_NOT_SOUND, one that something else has put out of order like one that was never laid out;
+ * but words that happen to be sound ({1, 1, 0, ..} are) pass for a table. The whole rule is `sound` in
+ * crates/model/specs/Sound.antt.
  *
  * A timer that fires is listed: id, routine and user data. The library calls no routine; routine and user data are
  * numbers of the caller's, the routine any but 0.
@@ -37,7 +38,7 @@
  *   - Nobody else reads or writes them during a call: where an interrupt makes calls on the same table, keep it out.
  *   - There is stack: hc_ticks_left takes 32 bytes for each timer ahead of its own, 8.2 KB at most, the other calls some
  *     300 bytes. The code is for x86-64, uses SSE registers and the red zone, and needs memset; it allocates nothing
- *     and has no data of its own.
+ *     and has no writable data.
  */
 #ifndef HEATHCINDER_H
 #define HEATHCINDER_H

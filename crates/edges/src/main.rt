@@ -1,7 +1,11 @@
 // Cases of document 01 that are run: those of its list "Both sides of each edge" that are not proved, its orders of refusals, and other
 // sentences of it. One line a case: what is done, then status and answer in decimal. `stdout` has what document 01 says of each.
+use answers::Answer;
+use answers::Reading;
 use calendar::WallTime;
+use clock::*;
 use slots::ID_BASE;
+use starts::*;
 use table::SLOT_COUNT;
 use table::SPARE_9;
 use table::TICKS_PER_SECOND;

@@ -4,6 +4,7 @@ use mathlib.Core.Path.{_≡_, refl, sym, ap, ap₂, _∙_, subst}
 use mathlib.Core.Logic.{_≢_}
 use Prim.Native.Nat.{ℕ, suc, _+_, _*_, _≤_, _<_}
 use native.Mathlib.Omega.{arith}
+use mathlib.Core.Bool.{false}
 use mathlib.Core.List.{List, [], _∷_, map}
 use lib.ListN.{length}
 use lib.Seq.{sets, length-sets}
@@ -11,17 +12,20 @@ use lib.Dec.{leb, ltb}
 use borrow.Author.Tests.{eq-eqb, le-leb, lt-leb, lt-ltb, le-ltb}
 use Rattle.model.specs.declared.Chain.{Chain}
 use Rattle.model.specs.declared.Chain.the-variants.{ByTicks, ByDate}
+use Rattle.model.specs.Kinds.{sameChain}
 use Rattle.model.specs.Lists.{keep, All, Sorted}
-use Rattle.model.specs.State.{Slot, Link, State, chainOf, rechain, slotAt, putAt, without, idBase, Fired, listed}
-use Rattle.model.specs.Directives.{stopped, idled, idleAll, due, fire}
-use Rattle.model.specs.Words.{word, field, headWord, slotFrom, read, over}
+use Rattle.model.specs.State.{Slot, Link, State, chainOf, withChain, slotAt, putAt, without, idBase, Fired, listed}
+use Rattle.model.specs.Directives.{stopped, became, idled, firedAll, due, fire}
+use Rattle.model.specs.Directives as model
+use Rattle.model.specs.Words.{word, headWord, slotFrom, read, writtenOver, waitOf, routineOf, dataOf}
 use Rattle.model.specs.Outcome.{entryWords}
 use Rattle.model.proofs.ListLaws.{all-map, keep-all, keep-none}
 use Rattle.model.proofs.WellFormed.{timesIn, Holds}
-use Rattle.model.proofs.Chains.{times-own, without-none, other, once-either}
-use Rattle.model.proofs.Spelling.{length-over}
+use Rattle.model.proofs.Chains.{times-own, without-none, once, once-apart}
+use Rattle.model.proofs.KindLaws.{on-numbers, each-chain}
+use Rattle.model.proofs.StateWords.{length-over}
 use Rattle.model.proofs.ReadBack.{slots-length, slot-read}
-use Rattle.model.proofs.Steps.{rechain-slots, rechain-own, length-fire, room-fire, chained-fire}
+use Rattle.model.proofs.Steps.{with-chain-slots, with-chain-clock, with-chain-own, with-chain-apart, stopped-chain, length-fire, chained-fire}
 use Rattle.links.specs.Places.{InTable}
 use Rattle.links.proofs.NextState.{Next, next-read, next-holds, next-then}
 use Rattle.links.proofs.Restart.{stoppedAt, stop-next}
@@ -34,47 +38,56 @@ use Rattle.firing.proofs.Heads.{Front, front, no-front}
 pub next-fires : {t : List ℕ} {s : State} {u : List ℕ} → Next t s u → {k : Chain} {limit : ℕ} {l l′ : List ℕ} {n m : ℕ} {v : List ℕ}
     → Fires k u l limit n m v l′ → Next t (fire k limit s) v
 next-fires {s = s} x {k} {limit} f =
-    next-then x (fire k limit) (chained-fire k limit s (x .holds .chained)) (length-fire k limit s) (room-fire k limit s) (f .table)
+    next-then x (fire k limit) (chained-fire k limit s (x .holds .chained)) (length-fire k limit s) (f .table)
 
 -- ---- the first link of a chain fires
 
 -- the state when it has stopped
 abbrev fired : Chain → State → Link → List Link → State
-fired k s y ys = rechain k s (idleAll (y ∷ []) (s .slots)) ys
+fired k s y ys = withChain k s (firedAll (y ∷ []) (s .slots)) ys
+
+-- two states are the same where their parts are
+same-state : (s s′ : State) → s .slots ≡ s′ .slots → s .clock ≡ s′ .clock → ((m : Chain) → chainOf m s ≡ chainOf m s′) → s ≡ s′
+same-state s s′ slots clock chains = λ d. record {
+  slots = slots d;
+  clock = clock d;
+  ticking = chains ByTicks d;
+  dated = chains ByDate d;
+}
+
+-- to fire is to stop
+fired-idle : (x : Slot) → idled x ≡ model.fired x
+fired-idle x =
+    ap (λ (n : ℕ). became n x) (on-numbers (λ _ y. y .whenStopped) (λ _ y. y .whenFired) refl (λ n _. refl) (x .kind))
 
 stopped-first : (k : Chain) (s : State) (y : Link) (ys : List Link) → chainOf k s ≡ y ∷ ys → timesIn ys (y .slot) ≡ 0
-    → timesIn (chainOf (other k) s) (y .slot) ≡ 0 → stopped s (y .slot) (idled (slotAt (s .slots) (y .slot))) ≡ fired k s y ys
+    → ((m : Chain) → sameChain m k ≡ false → timesIn (chainOf m s) (y .slot) ≡ 0)
+    → stopped s (y .slot) (idled (slotAt (s .slots) (y .slot))) ≡ fired k s y ys
 stopped-first k s y ys whole p q =
-    let slots = idleAll (y ∷ []) (s .slots) in
-    let own : without (y .slot) (chainOf k s) ≡ ys =
-    ap (without (y .slot)) whole ∙ rw (eq-eqb (y .slot) (y .slot) refl) (without-none (y .slot) ys p) in
-    either k (y .slot) (idled (slotAt (s .slots) (y .slot)))
-    ∙ ap₂ (λ (c d : List Link). rechain k (rechain (other k) s slots d) slots c) own (without-none (y .slot) (chainOf (other k) s) q) ∙ same k slots
-  where
-    either : (k : Chain) (i : ℕ) (x : Slot) → let slots = putAt (s .slots) i x in
-        stopped s i x ≡ rechain k (rechain (other k) s slots (without i (chainOf (other k) s))) slots (without i (chainOf k s))
-    either ByTicks i x = refl
-    either ByDate i x = refl
+    let i = y .slot in
+    let x = idled (slotAt (s .slots) i) in
+    let slots = firedAll (y ∷ []) (s .slots) in
+    same-state (stopped s i x) (fired k s y ys)
+    (ap (putAt (s .slots) i) (fired-idle (slotAt (s .slots) i)) ∙ sym (with-chain-slots s slots ys k)) (sym (with-chain-clock s slots ys k))
+    (each-chain (λ m. chainOf m (stopped s i x) ≡ chainOf m (fired k s y ys)) k
+    (stopped-chain s i x k ∙ ap (without i) whole ∙ rw (eq-eqb i i refl) (without-none i ys p) ∙ sym (with-chain-own s slots ys k))
+    (λ m away. stopped-chain s i x m ∙ without-none i (chainOf m s) (q m away) ∙ sym (with-chain-apart s slots ys k m away)))
 
-    same : (k : Chain) (slots : List Slot) → rechain k (rechain (other k) s slots (chainOf (other k) s)) slots ys ≡ rechain k s slots ys
-    same ByTicks slots = refl
-    same ByDate slots = refl
-
-fire-rechain : (k : Chain) (limit : ℕ) (s : State) (slots : List Slot) (c : List Link)
-    → fire k limit (rechain k s slots c) ≡ rechain k s (idleAll (keep (λ w. leb (w .wait) limit) c) slots) (keep (λ w. ltb limit (w .wait)) c)
-fire-rechain ByTicks limit s slots c = refl
-fire-rechain ByDate limit s slots c = refl
+fire-with-chain : (k : Chain) (limit : ℕ) (s : State) (slots : List Slot) (c : List Link)
+    → fire k limit (withChain k s slots c) ≡ withChain k s (firedAll (keep (λ w. leb (w .wait) limit) c) slots) (keep (λ w. ltb limit (w .wait)) c)
+fire-with-chain ByTicks limit s slots c = refl
+fire-with-chain ByDate limit s slots c = refl
 
 module _ (k : Chain) (limit : ℕ) (s : State) (y : Link) (ys : List Link) (whole : chainOf k s ≡ y ∷ ys) (low : y .wait ≤ limit) where
   due-first : due k limit s ≡ y ∷ due k limit (fired k s y ys)
   due-first =
       ap (keep (λ w. leb (w .wait) limit)) whole
-      ∙ rw (le-leb (y .wait) limit low, rechain-own s (idleAll (y ∷ []) (s .slots)) ys k)
+      ∙ rw (le-leb (y .wait) limit low, with-chain-own s (firedAll (y ∷ []) (s .slots)) ys k)
 
   fire-first : fire k limit s ≡ fire k limit (fired k s y ys)
   fire-first =
-      ap (λ (c : List Link). rechain k s (idleAll (keep (λ w. leb (w .wait) limit) c) (s .slots)) (keep (λ w. ltb limit (w .wait)) c)) whole
-      ∙ rw (le-leb (y .wait) limit low, le-ltb limit (y .wait) low) (sym (fire-rechain k limit s (idleAll (y ∷ []) (s .slots)) ys))
+      ap (λ (c : List Link). withChain k s (firedAll (keep (λ w. leb (w .wait) limit) c) (s .slots)) (keep (λ w. ltb limit (w .wait)) c)) whole
+      ∙ rw (le-leb (y .wait) limit low, le-ltb limit (y .wait) low) (sym (fire-with-chain k limit s (firedAll (y ∷ []) (s .slots)) ys))
 
 -- ---- none is due
 
@@ -85,12 +98,12 @@ none-due k t l limit n h late =
     let rest : keep (λ w. ltb limit (w .wait)) c ≡ c = keep-all (λ w. ltb limit (w .wait)) c (all-map (λ w p. lt-ltb limit (w .wait) p) c late) in
     record {
       count = omega (arith, ap length none);
-      table = sym (ap₂ (λ (d e : List Link). over (rechain k (read t) (idleAll d (read t .slots)) e) t) none rest
-          ∙ ap (λ (s : State). over s t) (same k (read t)) ∙ h .is);
+      table = sym (ap₂ (λ (d e : List Link). writtenOver (withChain k (read t) (firedAll d (read t .slots)) e) t) none rest
+          ∙ ap (λ (s : State). writtenOver s t) (same k (read t)) ∙ h .is);
       entries = ap (λ (d : List Link). sets l (3 * n) (entryWords (map (listed (read t .slots)) d))) (sym none);
     }
   where
-    same : (k : Chain) (s : State) → rechain k s (s .slots) (chainOf k s) ≡ s
+    same : (k : Chain) (s : State) → withChain k s (s .slots) (chainOf k s) ≡ s
     same ByTicks s = refl
     same ByDate s = refl
 
@@ -111,19 +124,24 @@ module _ {k : Chain} {t l : List ℕ} {limit n i : ℕ} (r : Room k t l limit n)
     omega (arith, r .few, ap length due-is),
   )
 
-  once : timesIn (a .entry ∷ a .back) (a .entry .slot) + timesIn (chainOf (other k) (read t)) (a .entry .slot) ≤ 1
-  once =
-      subst (λ (c : List Link). timesIn c (a .entry .slot) + timesIn (chainOf (other k) (read t)) (a .entry .slot) ≤ 1) (a .whole)
-      (once-either (read t) (r .holds .chained) k (a .entry .slot))
+  once-here : timesIn (a .entry ∷ a .back) (a .entry .slot) ≤ 1
+  once-here = subst (λ (c : List Link). timesIn c (a .entry .slot) ≤ 1) (a .whole) (once (read t) (r .holds .chained) k (a .entry .slot))
+
+  not-there : (m : Chain) → sameChain m k ≡ false → timesIn (chainOf m (read t)) (a .entry .slot) ≡ 0
+  not-there m away =
+      let one : timesIn (chainOf m (read t)) (a .entry .slot) + timesIn (a .entry ∷ a .back) (a .entry .slot) ≤ 1 =
+      subst (λ (c : List Link). timesIn (chainOf m (read t)) (a .entry .slot) + timesIn c (a .entry .slot) ≤ 1) (a .whole)
+      (once-apart (read t) (r .holds .chained) m k away (a .entry .slot)) in
+      omega (arith, one, times-own (a .entry) (a .back))
 
   stopped-is : stoppedAt t i ≡ after a
   stopped-is =
       ap (stoppedAt t) (a .slot)
       ∙ stopped-first k (read t) (a .entry) (a .back) (a .whole)
-      (omega (arith, once, times-own (a .entry) (a .back))) (omega (arith, once, times-own (a .entry) (a .back)))
+      (omega (arith, once-here, times-own (a .entry) (a .back))) not-there
 
   -- the entry that is written is the link's
-  entry-is : (es : List ℕ) → _≡_ {A = List ℕ} ((idBase + i) ∷ field t 4 i ∷ field t 5 i ∷ es)
+  entry-is : (es : List ℕ) → _≡_ {A = List ℕ} ((idBase + i) ∷ routineOf t i ∷ dataOf t i ∷ es)
       ((idBase + a .entry .slot) ∷ slotAt (read t .slots) (a .entry .slot) .routine ∷ slotAt (read t .slots) (a .entry .slot) .userData ∷ es)
   entry-is es =
       let x : slotFrom t i ≡ slotAt (read t .slots) (a .entry .slot) =
@@ -142,12 +160,12 @@ module _ {k : Chain} {t l : List ℕ} {limit n i : ℕ} (r : Room k t l limit n)
 
     chain-shorter : length (chainOf k (read t′)) < length (chainOf k (read t))
     chain-shorter =
-        let own = rechain-own (read t) (idleAll (a .entry ∷ []) (read t .slots)) (a .back) k in
+        let own = with-chain-own (read t) (firedAll (a .entry ∷ []) (read t .slots)) (a .back) k in
         omega (arith, ap length (ap (chainOf k) read-after ∙ own), ap length (a .whole))
 
     room-next : Room k t′ l′ limit (n + 1)
     room-next =
-        let same = ap length (e .entry) ∙ length-sets l (3 * n) ((idBase + i) ∷ field t 4 i ∷ field t 5 i ∷ []) in
+        let same = ap length (e .entry) ∙ length-sets l (3 * n) ((idBase + i) ∷ routineOf t i ∷ dataOf t i ∷ []) in
         record {
           holds = next-holds next;
           fits = omega (arith, r .fits, ap length due-next, same);
@@ -157,8 +175,8 @@ module _ {k : Chain} {t l : List ℕ} {limit n i : ℕ} (r : Room k t l limit n)
     fires-before : (m : ℕ) (u v : List ℕ) → Fires k t′ l′ limit (n + 1) m u v → Fires k t l limit n m u v
     fires-before m u v f =
         let later = due k limit (read t′) in
-        let slots : read t′ .slots ≡ idleAll (a .entry ∷ []) (read t .slots) =
-        ap (λ (z : State). z .slots) read-after ∙ rechain-slots (read t) (idleAll (a .entry ∷ []) (read t .slots)) (a .back) k in
+        let slots : read t′ .slots ≡ firedAll (a .entry ∷ []) (read t .slots) =
+        ap (λ (z : State). z .slots) read-after ∙ with-chain-slots (read t) (firedAll (a .entry ∷ []) (read t .slots)) (a .back) k in
         let same : fire k limit (stoppedAt t i) ≡ fire k limit (read t) =
         ap (fire k limit) stopped-is ∙ sym (fire-first k limit (read t) (a .entry) (a .back) (a .whole) low) in
         let es : map (listed (read t′ .slots)) later ≡ map (listed (read t .slots)) later =
@@ -166,9 +184,9 @@ module _ {k : Chain} {t l : List ℕ} {limit n i : ℕ} (r : Room k t l limit n)
         let three : 3 * (n + 1) ≡ suc (suc (suc (3 * n))) = omega arith in
         record {
           count = omega (arith, f .count, ap length due-next);
-          table = next-fires next f .is ∙ ap (λ (z : State). over z t) same;
+          table = next-fires next f .is ∙ ap (λ (z : State). writtenOver z t) same;
           entries = f .entries ∙ ap₂ (λ (x : List ℕ) (b : ℕ). sets x b (entryWords (map (listed (read t′ .slots)) later))) (e .entry) three
-              ∙ ap (λ (x : List Fired). sets l (3 * n) ((idBase + i) ∷ field t 4 i ∷ field t 5 i ∷ entryWords x)) es
+              ∙ ap (λ (x : List Fired). sets l (3 * n) ((idBase + i) ∷ routineOf t i ∷ dataOf t i ∷ entryWords x)) es
               ∙ ap (sets l (3 * n)) (entry-is (entryWords (map (listed (read t .slots)) later)))
               ∙ ap (λ (x : List Link). sets l (3 * n) (entryWords (map (listed (read t .slots)) x))) (sym due-next);
         }
@@ -204,7 +222,7 @@ module _ {k : Chain} {t₀ l₀ : List ℕ} {limit from : ℕ} {t l : List ℕ} 
   pub fire-front : i ≢ 0 → Front k t i
   fire-front some = front k (f .room .holds) (f .here) some
 
-  module _ (some : i ≢ 0) {w : ℕ} (is : w ≡ field t 3 i) where
+  module _ (some : i ≢ 0) {w : ℕ} (is : w ≡ waitOf t i) where
     -- the first link is not due, nor any behind it
     pub fire-later : limit < w → Fires k t₀ l₀ limit from n t l
     fire-later p =

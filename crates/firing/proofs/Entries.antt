@@ -7,9 +7,10 @@ use mathlib.Core.List.{List, [], _∷_, _++_, map}
 use lib.ListN.{length, set, drop}
 use lib.Seq.{sets, sets-eq}
 use Rattle.model.specs.State.{Slot, Link, Fired, listed, idBase}
-use Rattle.model.specs.Directives.{idleAll}
+use Rattle.model.specs.Directives.{firedAll}
 use Rattle.model.specs.Outcome.{entryWords, written}
-use Rattle.model.proofs.Slots.{memo-idleAll}
+use Rattle.model.proofs.Slots.{memo-firedAll}
+use Rattle.model.proofs.ListWords.{length-entries}
 
 -- ---- stores
 
@@ -34,14 +35,6 @@ sets-append l a (v ∷ vs) ws = ap (λ (n : ℕ). sets (sets (set l a v) (suc a)
 
 -- ---- entries
 
-pub entries-append : (fs gs : List Fired) → entryWords (fs ++ gs) ≡ entryWords fs ++ entryWords gs
-entries-append [] gs = refl
-entries-append (f ∷ fs) gs = ap {B = List ℕ} (λ r. f .id ∷ f .routine ∷ f .userData ∷ r) (entries-append fs gs)
-
-pub length-entries : (fs : List Fired) → length (entryWords fs) ≡ 3 * length fs
-length-entries [] = refl
-length-entries (f ∷ fs) = let ih = length-entries fs in omega arith
-
 pub sets-written : (fs : List Fired) (l : List ℕ) → 3 * length fs ≤ length l → sets l 0 (entryWords fs) ≡ written fs l
 sets-written fs l p =
     sets-eq (entryWords fs) l 0 (omega (arith, length-entries fs)) ∙ ap (λ (n : ℕ). entryWords fs ++ drop n l) none
@@ -49,8 +42,8 @@ sets-written fs l p =
     none : 0 + length (entryWords fs) ≡ length (entryWords fs)
     none = omega arith
 
-pub listed-idle : (ws : List Link) (slots : List Slot) (c : List Link) → map (listed (idleAll ws slots)) c ≡ map (listed slots) c
+pub listed-idle : (ws : List Link) (slots : List Slot) (c : List Link) → map (listed (firedAll ws slots)) c ≡ map (listed slots) c
 listed-idle ws slots [] = refl
 listed-idle ws slots (x ∷ xs) =
     ap₂ {C = List Fired} (λ m r. record { id = idBase + x .slot; routine = m .routine; userData = m .userData } ∷ r)
-    (memo-idleAll ws slots (x .slot)) (listed-idle ws slots xs)
+    (memo-firedAll ws slots (x .slot)) (listed-idle ws slots xs)

@@ -8,11 +8,11 @@ use mathlib.Core.List.{List, [], _∷_}
 use lib.ListN.{length}
 use Rattle.model.specs.declared.Chain.{Chain}
 use Rattle.model.specs.State.{Link, chainOf}
-use Rattle.model.specs.Words.{first, word, field, headWord, read}
+use Rattle.model.specs.Words.{first, word, headWord, read, waitOf}
 use Rattle.model.proofs.WellFormed.{Holds}
-use Rattle.model.proofs.Spelling.{holds-parts}
-use Rattle.links.proofs.Middle.{mid-stands, mid-own}
-use Rattle.links.proofs.Walk.{differ-zero}
+use Rattle.model.proofs.StateWords.{holds-parts}
+use Rattle.links.proofs.LinkInMiddle.{mid-stands, mid-own}
+use Rattle.links.proofs.WalkToPlace.{differ-zero}
 
 -- slot i is that of the first link of chain k
 pub record Front (k : Chain) (t : List ℕ) (i : ℕ) : Type 0 where
@@ -20,7 +20,7 @@ pub record Front (k : Chain) (t : List ℕ) (i : ℕ) : Type 0 where
   pub back : List Link
   pub whole : chainOf k (read t) ≡ entry ∷ back
   pub slot : i ≡ entry .slot
-  pub wait : field t 3 i ≡ entry .wait
+  pub wait : waitOf t i ≡ entry .wait
   pub low : 1 ≤ i
   pub high : i ≤ length (read t .slots)
 
@@ -48,7 +48,7 @@ module _ (k : Chain) {t : List ℕ} {i : ℕ} (h : Holds t (read t)) (here : i �
             back = ys;
             whole = q;
             slot = e;
-            wait = ap (field t 3) e ∙ mid-stands k t (read t) h [] y ys q .wait ∙ differ-zero k (y .wait);
+            wait = ap (waitOf t) e ∙ mid-stands k t (read t) h [] y ys q .wait ∙ differ-zero k (y .wait);
             low = omega arith;
             high = omega arith;
           }

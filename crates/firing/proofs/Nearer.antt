@@ -14,12 +14,12 @@ use Rattle.model.specs.declared.Chain.the-variants.{ByTicks, ByDate}
 use Rattle.model.specs.Lists.{All}
 use Rattle.model.specs.State.{Link, State, slotAt}
 use Rattle.model.specs.Directives.{closer, nearer}
-use Rattle.model.specs.Words.{first, nextIn, previousIn, waitIn, slotWords, write, over, word, field, read}
+use Rattle.model.specs.Words.{first, nextIn, previousIn, waitIn, slotWords, write, writtenOver, word, field, read, firstTicking, waitOf}
 use Rattle.model.specs.Sound.{sound}
 use Rattle.model.proofs.ListLaws.{cases}
-use Rattle.model.proofs.Each.{end, _&_, each-at}
+use Rattle.model.proofs.EachPlace.{end, _&_, each-at}
 use Rattle.model.proofs.WellFormed.{Holds}
-use Rattle.model.proofs.Spelling.{headWords, Spelled, holds-spelled, spelled-over}
+use Rattle.model.proofs.StateWords.{headWords, Spelled, holds-spelled, spelled-over}
 use Rattle.model.proofs.SoundHolds.{sound-holds, sound-well-formed}
 use Rattle.firing.proofs.Heads.{Front, no-front}
 
@@ -52,17 +52,17 @@ first-falls w ws i h =
 -- ---- the table with that word
 
 module _ (t : List ℕ) (s : State) (h : Holds t s) (w : Link) (ws : List Link) (whole : s .ticking ≡ w ∷ ws) (ones : All (λ v. 1 ≤ v .wait) (s .ticking))
-    (low : 1 ≤ w .slot) (high : w .slot ≤ length (s .slots)) (u : List ℕ) (is : u ≡ set t (2 + 8 * w .slot + 3) (field t 3 (w .slot) - 1)) where
+    (low : 1 ≤ w .slot) (high : w .slot ≤ length (s .slots)) (u : List ℕ) (is : u ≡ set t (2 + 8 * w .slot + 3) (waitOf t (w .slot) - 1)) where
   old : Spelled t s
   old = holds-spelled t s h
 
   other-word : (m : ℕ) → m ≢ 2 + 8 * w .slot + 3 → word u m ≡ word t m
-  other-word m n = ap (λ (v : List ℕ). word v m) is ∙ getD-set-other t (2 + 8 * w .slot + 3) m (field t 3 (w .slot) - 1) 0 n
+  other-word m n = ap (λ (v : List ℕ). word v m) is ∙ getD-set-other t (2 + 8 * w .slot + 3) m (waitOf t (w .slot) - 1) 0 n
 
-  own-word : field u 3 (w .slot) ≡ field t 3 (w .slot) - 1
+  own-word : waitOf u (w .slot) ≡ waitOf t (w .slot) - 1
   own-word =
-      ap (λ (v : List ℕ). field v 3 (w .slot)) is
-      ∙ getD-set-same t (2 + 8 * w .slot + 3) (field t 3 (w .slot) - 1) 0 (omega (arith, h .long))
+      ap (λ (v : List ℕ). waitOf v (w .slot)) is
+      ∙ getD-set-same t (2 + 8 * w .slot + 3) (waitOf t (w .slot) - 1) 0 (omega (arith, h .long))
 
   falls : (i : ℕ) → waitIn ByTicks 0 (map closer (s .ticking)) i + cond (eqb (w .slot) i) 1 0 ≡ waitIn ByTicks 0 (s .ticking) i
   falls i =
@@ -79,12 +79,12 @@ module _ (t : List ℕ) (s : State) (h : Holds t s) (w : Link) (ws : List Link) 
       same-heads = rw (first-closer (s .ticking))
 
       waits : (i : ℕ) → 0 < i → i ≤ length (s .slots)
-          → field u 3 i ≡ waitIn ByTicks 0 (map closer (s .ticking)) i + waitIn ByDate 0 (s .dated) i
+          → waitOf u i ≡ waitIn ByTicks 0 (map closer (s .ticking)) i + waitIn ByDate 0 (s .dated) i
       waits i a b =
           cases (eqb (w .slot) i)
           (λ e.
           let q = eqb-true (w .slot) i e in
-          let now : field u 3 i ≡ field t 3 i - 1 = subst (λ (j : ℕ). field u 3 j ≡ field t 3 j - 1) q own-word in
+          let now : waitOf u i ≡ waitOf t i - 1 = subst (λ (j : ℕ). waitOf u j ≡ waitOf t j - 1) q own-word in
           let less : waitIn ByTicks 0 (map closer (s .ticking)) i + 1 ≡ waitIn ByTicks 0 (s .ticking) i = rw e at (falls i) in
           omega (arith, old .body i 3 (omega arith) a b))
           (λ e.
@@ -93,11 +93,11 @@ module _ (t : List ℕ) (s : State) (h : Holds t s) (w : Link) (ws : List Link) 
           omega (arith, other-word (2 + 8 * i + 3) (omega arith), old .body i 3 (omega arith) a b))
 
       body : (i : ℕ) → 0 < i → i ≤ length (s .slots) → (f : ℕ) → f < 8
-          → field u f i ≡ getD (slotWords (nearer s) i (slotAt (s .slots) i) []) f 0
+          → field u i f ≡ getD (slotWords (nearer s) i (slotAt (s .slots) i) []) f 0
       body i a b =
-          let stays : (f : ℕ) → f < 8 → f ≢ 3 → field u f i ≡ getD (slotWords s i (slotAt (s .slots) i) []) f 0 =
+          let stays : (f : ℕ) → f < 8 → f ≢ 3 → field u i f ≡ getD (slotWords s i (slotAt (s .slots) i) []) f 0 =
           λ f p n. other-word (2 + 8 * i + f) (omega arith) ∙ old .body i f p a b in
-          each-at (λ f n. field u f i ≡ n) 0 (slotWords (nearer s) i (slotAt (s .slots) i) []) (
+          each-at (λ f n. field u i f ≡ n) 0 (slotWords (nearer s) i (slotAt (s .slots) i) []) (
           stays 0 (omega arith) (omega arith)
           & stays 1 (omega arith) (omega arith)
           & stays 2 (omega arith) (omega arith)
@@ -108,31 +108,31 @@ module _ (t : List ℕ) (s : State) (h : Holds t s) (w : Link) (ws : List Link) 
           & (stays 7 (omega arith) (omega arith) ∙ ap (λ (n : ℕ). n + previousIn 0 (s .dated) i) (sym (previous-closer 0 (s .ticking) i)))
           & end)
 
-  lowered : u ≡ over (nearer s) t
+  lowered : u ≡ writtenOver (nearer s) t
   lowered =
       let m = 10 + 8 * length (s .slots) in
-      let same : length u ≡ length t = ap length is ∙ length-set t (2 + 8 * w .slot + 3) (field t 3 (w .slot) - 1) in
+      let same : length u ≡ length t = ap length is ∙ length-set t (2 + 8 * w .slot + 3) (waitOf t (w .slot) - 1) in
       sym (spelled-over u (nearer s) spelled (omega (arith, h .long)))
-      ∙ ap (λ (v : List ℕ). over (nearer s) v) is
-      ∙ ap (write (nearer s)) (drop-set-lt m t (2 + 8 * w .slot + 3) (field t 3 (w .slot) - 1) (omega arith))
+      ∙ ap (λ (v : List ℕ). writtenOver (nearer s) v) is
+      ∙ ap (write (nearer s)) (drop-set-lt m t (2 + 8 * w .slot + 3) (waitOf t (w .slot) - 1) (omega arith))
 
 -- ---- a sound table
 
 module _ (t : List ℕ) (ok : sound t ≡ true) where
-  pub nearer-none : word t 5 ≡ 0 → t ≡ over (nearer (read t)) t
+  pub nearer-none : firstTicking t ≡ 0 → t ≡ writtenOver (nearer (read t)) t
   nearer-none e =
-      sym (ap (λ (c : List Link). over (record { room = read t .room; slots = read t .slots; clock = read t .clock; ticking = c; dated = read t .dated }) t)
+      sym (ap (λ (c : List Link). writtenOver (record { slots = read t .slots; clock = read t .clock; ticking = c; dated = read t .dated }) t)
       (ap (map closer) none ∙ sym none) ∙ sound-holds t ok .is)
     where
       none : read t .ticking ≡ []
       none = no-front ByTicks (sound-holds t ok) refl e
 
   module _ {i : ℕ} (a : Front ByTicks t i) where
-    pub first-waits : 1 ≤ field t 3 i
+    pub first-waits : 1 ≤ waitOf t i
     first-waits = omega (arith, a .wait, subst (All (λ v. 1 ≤ v .wait)) (a .whole) (sound-well-formed t ok .ticks) .0)
 
-    pub nearer-some : {u : List ℕ} → u ≡ set t (2 + 8 * i + 3) (field t 3 i - 1) → u ≡ over (nearer (read t)) t
+    pub nearer-some : {u : List ℕ} → u ≡ set t (2 + 8 * i + 3) (waitOf t i - 1) → u ≡ writtenOver (nearer (read t)) t
     nearer-some {u} e =
         lowered t (read t) (sound-holds t ok) (a .entry) (a .back) (a .whole) (sound-well-formed t ok .ticks)
         (omega (arith, a .low, a .slot)) (omega (arith, a .high, a .slot)) u
-        (e ∙ ap (λ (j : ℕ). set t (2 + 8 * j + 3) (field t 3 j - 1)) (a .slot))
+        (e ∙ ap (λ (j : ℕ). set t (2 + 8 * j + 3) (waitOf t j - 1)) (a .slot))

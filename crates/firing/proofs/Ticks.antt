@@ -10,43 +10,44 @@ use lib.Seq.{sets}
 use lib.Dec.{leb}
 use Rattle.model.specs.declared.Chain.{Chain}
 use Rattle.model.specs.declared.Chain.the-variants.{ByTicks, ByDate}
-use Rattle.model.specs.State.{Link, State, Fired, chainOf, reclock, listed}
+use Rattle.model.specs.State.{Link, State, Fired, chainOf, withClock, listed}
 use Rattle.model.specs.Directives.{due, fire, nearer, clockAt, clockStep, Effect, firing}
-use Rattle.model.specs.Words.{word, read, over}
+use Rattle.model.specs.Words.{read, writtenOver, slotCount, seconds, ticksInto}
 use Rattle.model.specs.Sound.{sound}
 use Rattle.model.specs.Outcome.{entryWords, written}
 use Rattle.model.proofs.ListLaws.{length-keep}
 use Rattle.model.proofs.WellFormed.{Chained, Holds}
 use Rattle.model.proofs.Chains.{fits, fit-both}
 use Rattle.model.proofs.ReadBack.{slots-length}
-use Rattle.model.proofs.Steps.{chained-nearer, chained-reclock}
+use Rattle.model.proofs.Steps.{chained-nearer, chained-with-clock}
 use Rattle.model.proofs.SoundHolds.{sound-holds, sound-well-formed}
 use Rattle.links.proofs.NextState.{Next, next-start, next-read, next-holds, next-then}
 use Rattle.firing.specs.Lists.{Room, Fires}
-use Rattle.firing.proofs.Entries.{sets-append, entries-append, length-entries, sets-written, listed-idle}
+use Rattle.model.proofs.ListWords.{entries-append, length-entries}
+use Rattle.firing.proofs.Entries.{sets-append, sets-written, listed-idle}
 use Rattle.firing.proofs.Due.{next-fires, fires-list-length}
 
 -- ---- the whole call
 
 -- A tick that fires interval timers with so many ticks left and dated ones up to a second; a set clock that fires one chain up to a limit.
 -- The model's tick fires at 0 ticks left and up to its clock's second, its set clock the dated chain up to the second given.
-abbrev pub tickedTo : ℕ → ℕ → State → List ℕ → Effect
-tickedTo limit second s list =
+abbrev pub tickedTo : ℕ → ℕ → State → Effect
+tickedTo limit second s =
     let near = nearer s in
-    let later = reclock (fire ByTicks limit near) (clockStep (s .clock)) in
-    firing (fire ByDate second later) (due ByTicks limit near ++ due ByDate second later) list
+    let later = withClock (fire ByTicks limit near) (clockStep (s .clock)) in
+    firing (fire ByDate second later) (due ByTicks limit near ++ due ByDate second later)
 
-abbrev pub movedTo : Chain → ℕ → State → ℕ → List ℕ → Effect
-movedTo k limit s second list =
-    let later = reclock s (clockAt (s .clock) second 0) in firing (fire k limit later) (due k limit later) list
+abbrev pub movedTo : Chain → ℕ → State → ℕ → Effect
+movedTo k limit s second =
+    let later = withClock s (clockAt (s .clock) second 0) in firing (fire k limit later) (due k limit later)
 
 -- the words are those that a call leaves, with its answer
 pub record Leaves (t list : List ℕ) (e : Effect) (m : ℕ) (u list′ : List ℕ) : Type 0 where
-  pub table : u ≡ over (e .state) t
+  pub table : u ≡ writtenOver (e .state) t
   pub answer : m ∷ [] ≡ e .answer
   pub entries : list′ ≡ written (map (listed (read t .slots)) (e .fired)) list
 
-module _ (t list : List ℕ) (ok : sound t ≡ true) (long : 3 * word t 0 ≤ length list) where
+module _ (t list : List ℕ) (ok : sound t ≡ true) (long : 3 * slotCount t ≤ length list) where
   start : Next t (read t) t
   start = next-start (sound-holds t ok)
 
@@ -73,9 +74,9 @@ module _ (t list : List ℕ) (ok : sound t ≡ true) (long : 3 * word t 0 ≤ le
 
   -- ---- a tick, whatever the limits up to which it fires
 
-  module _ {u₁ : List ℕ} (e₁ : u₁ ≡ over (nearer (read t)) t) where
+  module _ {u₁ : List ℕ} (e₁ : u₁ ≡ writtenOver (nearer (read t)) t) where
     after-nearer : Next t (nearer (read t)) u₁
-    after-nearer = next-then start nearer (chained-nearer (read t) chained) refl refl e₁
+    after-nearer = next-then start nearer (chained-nearer (read t) chained) refl e₁
 
     few-both : length (nearer (read t) .ticking) + length (read t .dated) ≤ length (read t .slots)
     few-both = fit-both (nearer (read t)) (chained-nearer (read t) chained)
@@ -90,7 +91,7 @@ module _ (t list : List ℕ) (ok : sound t ≡ true) (long : 3 * word t 0 ≤ le
       pub first-holds : Holds u₂ (read u₂)
       first-holds = next-holds after-first
 
-      pub first-into : word u₂ 4 < 1000
+      pub first-into : ticksInto u₂ < 1000
       first-into =
           let w = sound-well-formed t ok in omega (arith, ap (λ (z : State). z .clock .ticksInto) (next-read after-first), w .into, w .per-high)
 
@@ -104,11 +105,11 @@ module _ (t list : List ℕ) (ok : sound t ≡ true) (long : 3 * word t 0 ≤ le
       first-entries =
           f₁ .entries ∙ ap (λ (z : State). sets list (3 * 0) (entryWords (map (listed (z .slots)) (due ByTicks limit z)))) (next-read after-nearer)
 
-      module _ {u₃ : List ℕ} (e₃ : u₃ ≡ over (reclock (read u₂) (clockStep (read u₂ .clock))) u₂) where
-        after-clock : Next t (reclock (fire ByTicks limit (nearer (read t))) (clockStep (read t .clock))) u₃
+      module _ {u₃ : List ℕ} (e₃ : u₃ ≡ writtenOver (withClock (read u₂) (clockStep (read u₂ .clock))) u₂) where
+        after-clock : Next t (withClock (fire ByTicks limit (nearer (read t))) (clockStep (read t .clock))) u₃
         after-clock =
-            next-then after-first (λ z. reclock z (clockStep (z .clock)))
-            (chained-reclock (fire ByTicks limit (nearer (read t))) (clockStep (read t .clock)) (after-first .holds .chained)) refl refl e₃
+            next-then after-first (λ z. withClock z (clockStep (z .clock)))
+            (chained-with-clock (fire ByTicks limit (nearer (read t))) (clockStep (read t .clock)) (after-first .holds .chained)) refl e₃
 
         pub clock-long : 10 ≤ length u₃
         clock-long = omega (arith, next-holds after-clock .long)
@@ -117,11 +118,11 @@ module _ (t list : List ℕ) (ok : sound t ≡ true) (long : 3 * word t 0 ≤ le
         clock-room second =
             room-for after-clock ByDate second n list₂ (fires-list-length (nearer-room limit) f₁) (omega (arith, first-few, few-both))
 
-        pub second-is : word u₃ 3 ≡ clockStep (read t .clock) .second
+        pub second-is : seconds u₃ ≡ clockStep (read t .clock) .second
         second-is = ap (λ (z : State). z .clock .second) (next-read after-clock)
 
         pub ticked-is : {second m : ℕ} {u₄ list₄ : List ℕ} → Fires ByDate u₃ list₂ second n m u₄ list₄
-            → Leaves t list (tickedTo limit second (read t) list) m u₄ list₄
+            → Leaves t list (tickedTo limit second (read t)) m u₄ list₄
         ticked-is {second} {m} {u₄} {list₄} f₃ =
             let s = read t in
             let first = due ByTicks limit (nearer s) in
@@ -146,22 +147,22 @@ module _ (t list : List ℕ) (ok : sound t ≡ true) (long : 3 * word t 0 ≤ le
 
   -- ---- a set clock, whatever it fires then
 
-  module _ (second : ℕ) {u₁ : List ℕ} (e₁ : u₁ ≡ over (reclock (read t) (clockAt (read t .clock) second 0)) t) where
-    after-set : Next t (reclock (read t) (clockAt (read t .clock) second 0)) u₁
+  module _ (second : ℕ) {u₁ : List ℕ} (e₁ : u₁ ≡ writtenOver (withClock (read t) (clockAt (read t .clock) second 0)) t) where
+    after-set : Next t (withClock (read t) (clockAt (read t .clock) second 0)) u₁
     after-set =
-        next-then start (λ z. reclock z (clockAt (z .clock) second 0))
-        (chained-reclock (read t) (clockAt (read t .clock) second 0) chained) refl refl e₁
+        next-then start (λ z. withClock z (clockAt (z .clock) second 0))
+        (chained-with-clock (read t) (clockAt (read t .clock) second 0) chained) refl e₁
 
-    few-one : (k : Chain) → length (chainOf k (reclock (read t) (clockAt (read t .clock) second 0))) ≤ length (read t .slots)
-    few-one = fits (reclock (read t) (clockAt (read t .clock) second 0)) (after-set .holds .chained)
+    few-one : (k : Chain) → length (chainOf k (withClock (read t) (clockAt (read t .clock) second 0))) ≤ length (read t .slots)
+    few-one = fits (withClock (read t) (clockAt (read t .clock) second 0)) (after-set .holds .chained)
 
     pub moved-room : (k : Chain) (limit : ℕ) → Room k u₁ list limit 0
     moved-room k limit = room-for after-set k limit 0 list refl (omega (arith, few-one k))
 
     pub moved-is : {k : Chain} {limit m : ℕ} {u₂ list₂ : List ℕ} → Fires k u₁ list limit 0 m u₂ list₂
-        → Leaves t list (movedTo k limit (read t) second list) m u₂ list₂
+        → Leaves t list (movedTo k limit (read t) second) m u₂ list₂
     moved-is {k} {limit} {m} {u₂} {list₂} f =
-        let later = reclock (read t) (clockAt (read t .clock) second 0) in
+        let later = withClock (read t) (clockAt (read t .clock) second 0) in
         let number : m ≡ length (due k limit later) =
         omega (arith, f .count, ap (λ (z : State). length (due k limit z)) (next-read after-set)) in
         record {

@@ -7,7 +7,7 @@ use lib.Seq.{sets}
 use Rattle.model.specs.declared.Chain.{Chain}
 use Rattle.model.specs.State.{slotAt, idBase, listed}
 use Rattle.model.specs.Directives.{stopped, idled, due, fire}
-use Rattle.model.specs.Words.{field, read, over}
+use Rattle.model.specs.Words.{read, writtenOver, routineOf, dataOf}
 use Rattle.model.specs.Outcome.{entryWords}
 use Rattle.model.proofs.WellFormed.{Holds}
 
@@ -19,11 +19,11 @@ pub record Room (k : Chain) (t list : List ℕ) (limit from : ℕ) : Type 0 wher
 
 -- slot i stopped, and was written as entry n
 pub record FiresOne (t list : List ℕ) (n i : ℕ) (t′ list′ : List ℕ) : Type 0 where
-  pub table : t′ ≡ over (stopped (read t) i (idled (slotAt (read t .slots) i))) t
-  pub entry : list′ ≡ sets list (3 * n) ((idBase + i) ∷ field t 4 i ∷ field t 5 i ∷ [])
+  pub table : t′ ≡ writtenOver (stopped (read t) i (idled (slotAt (read t .slots) i))) t
+  pub entry : list′ ≡ sets list (3 * n) ((idBase + i) ∷ routineOf t i ∷ dataOf t i ∷ [])
 
 -- they fired: how many entries there are now, the table, and the list
 pub record Fires (k : Chain) (t list : List ℕ) (limit from number : ℕ) (t′ list′ : List ℕ) : Type 0 where
   pub count : number ≡ from + length (due k limit (read t))
-  pub table : t′ ≡ over (fire k limit (read t)) t
+  pub table : t′ ≡ writtenOver (fire k limit (read t)) t
   pub entries : list′ ≡ sets list (3 * from) (entryWords (map (listed (read t .slots)) (due k limit (read t))))

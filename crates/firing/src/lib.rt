@@ -5,14 +5,14 @@ ghost use mathlib.Core.List.{[], _∷_};
 ghost use Prim.Native.Nat.{_+_, _*_, _<_, _≤_};
 ghost use lib.ListN.{length};
 ghost use lib.Seq.{sets};
-ghost use Rattle.model.specs.State.{reclock};
+ghost use Rattle.model.specs.State.{withClock};
 ghost use Rattle.model.specs.Directives.{nearer, clockAt, clockStep};
-ghost use Rattle.model.specs.Words.{word, read, over};
+ghost use Rattle.model.specs.Words.{read, writtenOver, ticksInto};
 ghost use Rattle.model.specs.Sound.{sound};
 ghost use Rattle.model.proofs.WellFormed.{Holds};
 ghost use Rattle.links.specs.Places.{InTable};
 ghost use Rattle.firing.specs.Lists.{Room, FiresOne, Fires};
-use links::follower;
+use chains::follower;
 use links::stop;
 use model::Chain;
 use slots::ID_BASE;
@@ -76,7 +76,7 @@ pub fn fire(t: &mut [u32], list: &mut [u32], chain: Chain, limit: u32, from: u32
 // Every interval timer comes one tick nearer: the first one's wait falls, and those behind it count from it.
 pub fn come_nearer(t: &mut [u32])
     requires { ⌜ sound (now t) ≡ true ⌝ }
-    ensures { λ _. ⌜ now (t .exit) ≡ over (nearer (read (now (t .entry)))) (now (t .entry)) ⌝ }
+    ensures { λ _. ⌜ now (t .exit) ≡ writtenOver (nearer (read (now (t .entry)))) (now (t .entry)) ⌝ }
 {
     let i = t[FIRST_TICKING];
     if i != 0 {
@@ -87,8 +87,8 @@ pub fn come_nearer(t: &mut [u32])
 
 // The clock goes on by one tick, if it is set and not at its last one.
 pub fn step_clock(t: &mut [u32])
-    requires { ⌜ Holds (now t) (read (now t)) × (word (now t) 4 < 1000) ⌝ }
-    ensures { λ _. ⌜ now (t .exit) ≡ over (reclock (read (now (t .entry))) (clockStep (read (now (t .entry)) .clock))) (now (t .entry)) ⌝ }
+    requires { ⌜ Holds (now t) (read (now t)) × (ticksInto (now t) < 1000) ⌝ }
+    ensures { λ _. ⌜ now (t .exit) ≡ writtenOver (withClock (read (now (t .entry))) (clockStep (read (now (t .entry)) .clock))) (now (t .entry)) ⌝ }
 {
     if t[CLOCK_SET] != 1 {
         return;
@@ -108,7 +108,7 @@ pub fn step_clock(t: &mut [u32])
 // The clock is set to a second.
 pub fn set_clock(t: &mut [u32], second: u32)
     requires { ⌜ Holds (now t) (read (now t)) ⌝ }
-    ensures { λ _. ⌜ now (t .exit) ≡ over (reclock (read (now (t .entry))) (clockAt (read (now (t .entry)) .clock) second 0)) (now (t .entry)) ⌝ }
+    ensures { λ _. ⌜ now (t .exit) ≡ writtenOver (withClock (read (now (t .entry))) (clockAt (read (now (t .entry)) .clock) second 0)) (now (t .entry)) ⌝ }
 {
     t[CLOCK_SET] = 1;
     t[SECONDS] = second;

@@ -1,4 +1,4 @@
--- A timer that does not wait starts to: its slot put between xs and ys, the links of the chain up to its wait and beyond it, is one edit of
+-- A timer that does not wait starts to: its slot inserted between xs and ys, the links of the chain up to its wait and beyond it, is one edit of
 -- the table, which then holds the started state. Assumes nothing.
 use mathlib.Core.Path.{_≡_, refl, sym, ap, ap₂, _∙_, subst}
 use mathlib.Core.Logic.{_≢_}
@@ -11,21 +11,24 @@ use borrow.Author.Tests.{eqb-true, eqb-false, leb-true, leb-false}
 use Rattle.model.specs.declared.Chain.{Chain}
 use Rattle.model.specs.declared.Chain.the-variants.{ByTicks, ByDate}
 use Rattle.model.specs.Lists.{place}
-use Rattle.model.specs.Kinds.{waitingKind}
-use Rattle.model.specs.State.{Slot, Link, State, chainOf, rechain, slotAt, putAt}
-use Rattle.model.specs.Directives.{stopped, queued, waitingAs, started}
-use Rattle.model.specs.Words.{first, difference, over, field, read}
+use Rattle.model.specs.declared.Mode.{Mode}
+use Rattle.model.specs.Kinds.{chainFor, waitingKind}
+use Rattle.model.specs.State.{Slot, Link, State, chainOf, withChain, slotAt, putAt}
+use Rattle.model.specs.Directives.{stopped, inserted, intervalIn, waitingAs, started}
+use Rattle.model.specs.Words.{first, difference, writtenOver, read, nameOf, waitOf}
 use Rattle.model.proofs.ListLaws.{cases, count-append}
 use Rattle.model.proofs.WellFormed.{timesIn, Holds}
-use Rattle.model.proofs.Chains.{without-none, other, once-either, met-in-range}
-use Rattle.model.proofs.Spelling.{holds-parts, Linked}
-use Rattle.model.proofs.Steps.{Within, chained-started}
-use Rattle.links.specs.Surgery.{relinked, given, putIn, Open, filled}
+use Rattle.model.proofs.Chains.{without-none, once, once-apart, met-in-range}
+use Rattle.model.proofs.StateWords.{holds-parts, Linked}
+use Rattle.model.proofs.Steps.{chained-started}
+use Rattle.chains.specs.EditedWords.{relinked, waitBehind, insertedWords, Insertable}
 use Rattle.links.specs.Places.{upTo, beyond, lastSlot, lastWait, At, IdleInTable}
-use Rattle.links.proofs.Middle.{times-at}
-use Rattle.links.proofs.Surgery.{given-ticks, given-date, relinked-edit, filled-edit}
+use Rattle.links.specs.TimerWords.{timerPut}
+use Rattle.links.proofs.LinkInMiddle.{times-at}
+use Rattle.links.proofs.TimerWords.{timer-put-edit}
+use Rattle.chains.proofs.EditedWords.{wait-behind-ticks, wait-behind-date, relinked-edit}
 use Rattle.links.proofs.Relinked.{times-but, Around, own-not-last, own-not-first, last-high, first-high, behind-within, Led, led-tail, holds-led, led-front, led-back, edited}
-use Rattle.links.proofs.Cutting.{in-slots, in-none}
+use Rattle.links.proofs.Extracting.{in-slots, in-none}
 
 -- ---- the place
 
@@ -49,23 +52,21 @@ first-beyond n (x ∷ xs) y ys e =
     (λ f. let z : x ∷ xs ≡ y ∷ ys = rw f at e in let w : x .wait ≡ y .wait = cc in omega (arith, leb-false (x .wait) n f))
 
 -- a wait of the slot behind, after one came in front of it
-given-is : (k : Chain) (t : List ℕ) (n w a b c : ℕ) → n ≢ 0 → field t 3 n ≡ difference k a c → w ≡ difference k a b → a ≤ b → b ≤ c
-    → given k t n w ≡ difference k b c
-given-is ByTicks t n w a b c h e f p q = omega (arith, given-ticks t w n h)
-given-is ByDate t n w a b c h e f p q = given-date t w n h ∙ e
+wait-behind-is : (k : Chain) (t : List ℕ) (n w a b c : ℕ) → n ≢ 0 → waitOf t n ≡ difference k a c → w ≡ difference k a b → a ≤ b → b ≤ c
+    → waitBehind k t n w ≡ difference k b c
+wait-behind-is ByTicks t n w a b c h e f p q = omega (arith, wait-behind-ticks t w n h)
+wait-behind-is ByDate t n w a b c h e f p q = wait-behind-date t w n h ∙ e
 
 -- a state whose slot i is in no chain
 started-as : (k : Chain) (s : State) (i n : ℕ) (x : Slot) (c : List Link) → ((m : Chain) → timesIn (chainOf m s) i ≡ 0)
-    → place (λ w. w .wait) (record { slot = i; wait = n }) (chainOf k s) ≡ c → rechain k s (putAt (s .slots) i x) c ≡ queued k (stopped s i x) i n
+    → place (λ w. w .wait) (record { slot = i; wait = n }) (chainOf k s) ≡ c → withChain k s (putAt (s .slots) i x) c ≡ inserted k (stopped s i x) i n
 started-as ByTicks s i n x c none e = λ d. record {
-  room = s .room;
   slots = putAt (s .slots) i x;
   clock = s .clock;
   ticking = (sym e ∙ ap (place (λ w. w .wait) (record { slot = i; wait = n })) (sym (without-none i (s .ticking) (none ByTicks)))) d;
   dated = sym (without-none i (s .dated) (none ByDate)) d;
 }
 started-as ByDate s i n x c none e = λ d. record {
-  room = s .room;
   slots = putAt (s .slots) i x;
   clock = s .clock;
   ticking = sym (without-none i (s .ticking) (none ByTicks)) d;
@@ -85,8 +86,13 @@ module _ (k : Chain) (t : List ℕ) (s : State) (h : Holds t s) (xs : List Link)
     once = λ j. cases (eqb (e .slot) j)
         (λ f.
         let is = eqb-true (e .slot) j f in
-        rw (← is) (omega (arith, times-at xs e ys, times-whole (e .slot), none k, none (other k))))
-        (λ f. omega (arith, times-but j xs e ys (λ r. eqb-false (e .slot) j f (sym r)), times-whole j, once-either s (h .chained) k j));
+        rw (← is) (omega (arith, times-at xs e ys, times-whole (e .slot), none k)))
+        (λ f. omega (arith, times-but j xs e ys (λ r. eqb-false (e .slot) j f (sym r)), times-whole j, once s (h .chained) k j));
+    apart = λ m away j. cases (eqb (e .slot) j)
+        (λ f.
+        let is = eqb-true (e .slot) j f in
+        rw (← is) (omega (arith, times-at xs e ys, times-whole (e .slot), none k, none m)))
+        (λ f. omega (arith, times-but j xs e ys (λ r. eqb-false (e .slot) j f (sym r)), times-whole j, once-apart s (h .chained) m k away j));
     within = λ j m. cases (eqb (e .slot) j)
         (λ f. let is = eqb-true (e .slot) j f in (omega arith, omega arith))
         (λ f. met-in-range s (h .chained) k j (omega (arith, times-but j xs e ys (λ r. eqb-false (e .slot) j f (sym r)), times-whole j)));
@@ -99,78 +105,82 @@ module _ (k : Chain) (t : List ℕ) (s : State) (h : Holds t s) (xs : List Link)
       (λ j m. met-in-range s (h .chained) k j (omega (arith, m, times-whole j, count-append (λ w. eqb (w .slot) j) xs ys)) .0)
       (subst (Led k t 0 0) whole (holds-led t s h k))
 
-  behind-wait : (y : Link) (zs : List Link) → ys ≡ y ∷ zs → field t 3 (y .slot) ≡ difference k (lastWait 0 xs) (y .wait)
+  behind-wait : (y : Link) (zs : List Link) → ys ≡ y ∷ zs → waitOf t (y .slot) ≡ difference k (lastWait 0 xs) (y .wait)
   behind-wait y zs q = subst (Linked k t (lastSlot 0 xs) (lastWait 0 xs)) q (rest .linked) .0 .wait
 
   module _ (w : ℕ) (w-is : w ≡ difference k (lastWait 0 xs) (e .wait)) where
-    -- what the slot behind gives over
-    given-over : (y : Link) (zs : List Link) → ys ≡ y ∷ zs → given k t (first ys) w ≡ difference k (e .wait) (y .wait)
-    given-over y zs q =
-        ap (λ (c : List Link). given k t (first c) w) q
-        ∙ given-is k t (y .slot) w (lastWait 0 xs) (e .wait) (y .wait) (λ z. omega (arith, behind-within around y zs q .0))
+    -- the wait of the slot behind
+    follower-wait : (y : Link) (zs : List Link) → ys ≡ y ∷ zs → waitBehind k t (first ys) w ≡ difference k (e .wait) (y .wait)
+    follower-wait y zs q =
+        ap (λ (c : List Link). waitBehind k t (first c) w) q
+        ∙ wait-behind-is k t (y .slot) w (lastWait 0 xs) (e .wait) (y .wait) (λ z. omega (arith, behind-within around y zs q .0))
         (behind-wait y zs q) w-is up (past y zs q)
 
-    open-mid : Open k t (lastSlot 0 xs) (e .slot) w
-    open-mid = record {
+    insertable-mid : Insertable k t (lastSlot 0 xs) (e .slot) w
+    insertable-mid = record {
       here = omega (arith, h .long);
       before = omega (arith, last-high around, h .long);
       behind = omega (arith, rest .link, first-high around, h .long);
       fits = λ c p. rw (rest .link) (room c ys refl (omega (arith, p, rest .link)));
     }
       where
-        room : k ≡ ByTicks → (zs : List Link) → ys ≡ zs → 0 < first ys → w ≤ field t 3 (first ys)
+        room : k ≡ ByTicks → (zs : List Link) → ys ≡ zs → 0 < first ys → w ≤ waitOf t (first ys)
         room c [] q p = absurd (omega (arith, p, ap first q))
         room c (y ∷ zs) q p =
-            let is : field t 3 (first ys) ≡ difference k (lastWait 0 xs) (y .wait) = ap (λ (c : List Link). field t 3 (first c)) q ∙ behind-wait y zs q in
+            let is : waitOf t (first ys) ≡ difference k (lastWait 0 xs) (y .wait) = ap (λ (c : List Link). waitOf t (first c)) q ∙ behind-wait y zs q in
             let less = past y zs q in
             omega (arith, ap (λ (m : Chain). difference m (lastWait 0 xs) (y .wait)) c, ap (λ (m : Chain). difference m (lastWait 0 xs) (e .wait)) c)
 
-    start-mid : (interval r u : ℕ) → Within k (e .wait) interval → place (λ z. z .wait) e (chainOf k s) ≡ xs ++ e ∷ ys
-        → filled (putIn k t (lastSlot 0 xs) (e .slot) w) (e .slot) (waitingKind k) interval r u ≡ over (started k s (e .slot) (e .wait) interval r u) t
-    start-mid interval r u ok goes =
+    start-mid : (m : Mode) → k ≡ chainFor m → (r u : ℕ) → place (λ z. z .wait) e (chainOf k s) ≡ xs ++ e ∷ ys
+        → timerPut (insertedWords k t (lastSlot 0 xs) (e .slot) w) (e .slot) (waitingKind m) (intervalIn (chainFor m) (e .wait)) r u
+        ≡ writtenOver (started m s (e .slot) (e .wait) r u) t
+    start-mid m in-k r u goes =
+        let interval = intervalIn (chainFor m) (e .wait) in
         let i = e .slot in
         let p = lastSlot 0 xs in
         let n = first ys in
         let x = slotAt (s .slots) i in
-        let new : record { kind = waitingKind k; name = field t 1 i; interval = interval; routine = r; userData = u } ≡ waitingAs k x interval r u =
-        ap (λ (z : Slot). waitingAs k z interval r u) (holds-parts t s h .slots i low high) in
-        let edit = filled-edit (waitingKind k) interval r u refl
-        (relinked-edit k t p i n i (given k t n w) i low (own-not-last around) (own-not-first around)
+        let new : record { kind = waitingKind m; name = nameOf t i; interval = interval; routine = r; userData = u } ≡ waitingAs m x (e .wait) r u =
+        ap (λ (z : Slot). waitingAs m z (e .wait) r u) (holds-parts t s h .slots i low high) in
+        let edit = timer-put-edit (waitingKind m) interval r u refl
+        (relinked-edit k t p i n i (waitBehind k t n w) i low (own-not-last around) (own-not-first around)
         (omega (arith, last-high around, h .long)) (omega (arith, first-high around, h .long)) (omega (arith, h .long)) w n p) in
-        ap (λ (m : ℕ). filled (relinked k t p i m i (given k t m w) i w m p) i (waitingKind k) interval r u) (rest .link)
+        ap (λ (j : ℕ). timerPut (relinked k t p i j i (waitBehind k t j w) i w j p) i (waitingKind m) interval r u) (rest .link)
         ∙ edited h around edit (xs ++ e ∷ ys)
         (led-front h around edit ys (e ∷ ys) whole
         (record {
           link = edit .link;
           linked = (
             record { next = edit .own 6 (omega arith); previous = edit .own 7 (omega arith); wait = edit .own 3 (omega arith) ∙ w-is },
-            led-back h around edit p (lastWait 0 xs) (e .wait) given-over (rest .linked),
+            led-back h around edit p (lastWait 0 xs) (e .wait) follower-wait (rest .linked),
           );
         }))
         (λ j. times-but j xs e ys)
         (λ z. absurd (omega (arith, z, times-at xs e ys)))
-        (started k s i (e .wait) interval r u)
-        (ap (λ (z : Slot). rechain k s (putAt (s .slots) i z) (xs ++ e ∷ ys)) new
-        ∙ started-as k s i (e .wait) (waitingAs k x interval r u) (xs ++ e ∷ ys) none goes)
-        (chained-started k s (h .chained) i (e .wait) interval r u low high ok)
+        (started m s i (e .wait) r u)
+        (ap (λ (z : Slot). withChain k s (putAt (s .slots) i z) (xs ++ e ∷ ys)) new
+        ∙ started-as k s i (e .wait) (waitingAs m x (e .wait) r u) (xs ++ e ∷ ys) none goes
+        ∙ ap (λ (j : Chain). inserted j (stopped s i (waitingAs m x (e .wait) r u)) i (e .wait)) in-k)
+        (chained-started m s (h .chained) i (e .wait) r u low high)
 
 -- ---- a table
 
 module _ (k : Chain) (t : List ℕ) (i : ℕ) (h : IdleInTable t i) (n p w : ℕ) (at : At k (read t) n p w) where
-  pub opens : Open k t p i w
-  opens =
+  pub insertable : Insertable k t p i w
+  insertable =
       let c = chainOf k (read t) in
-      rw (at .slot) (open-mid k t (read t) (h .in-table .holds) (upTo n c) (record { slot = i; wait = n }) (beyond n c) (parted n c)
+      rw (at .slot) (insertable-mid k t (read t) (h .in-table .holds) (upTo n c) (record { slot = i; wait = n }) (beyond n c) (parted n c)
       (h .in-table .low) (in-slots t i (h .in-table)) (in-none t i (h .in-table) (h .idle)) (last-up 0 n c zero-le) (first-beyond n c)
       w (at .word))
 
   -- the words after the steps of a start
-  pub start-words : (interval r u : ℕ) → Within k n interval → {kind : ℕ} {t₁ t₂ : List ℕ} → t₁ ≡ putIn k t p i w → kind ≡ waitingKind k
-      → t₂ ≡ filled t₁ i kind interval r u → t₂ ≡ over (started k (read t) i n interval r u) t
-  start-words interval r u ok put is fill =
+  pub start-words : (m : Mode) → k ≡ chainFor m → (r u : ℕ) {kind interval : ℕ} (t₁ : List ℕ) {t₂ : List ℕ} → t₁ ≡ insertedWords k t p i w → kind ≡ waitingKind m
+      → interval ≡ intervalIn k n → t₂ ≡ timerPut t₁ i kind interval r u → t₂ ≡ writtenOver (started m (read t) i n r u) t
+  start-words m in-k r u t₁ put is for timer =
       let c = chainOf k (read t) in
       let e : Link = record { slot = i; wait = n } in
-      fill ∙ ap₂ (λ (l : List ℕ) (m : ℕ). filled l i m interval r u) put is
+      timer ∙ ap₂ (λ (a b : ℕ). timerPut t₁ i a b r u) is (for ∙ ap (λ (j : Chain). intervalIn j n) in-k)
+      ∙ ap (λ (l : List ℕ). timerPut l i (waitingKind m) (intervalIn (chainFor m) n) r u) put
       ∙ rw (at .slot) (start-mid k t (read t) (h .in-table .holds) (upTo n c) e (beyond n c) (parted n c)
       (h .in-table .low) (in-slots t i (h .in-table)) (in-none t i (h .in-table) (h .idle)) (last-up 0 n c zero-le) (first-beyond n c)
-      w (at .word) interval r u ok (placed e c))
+      w (at .word) m in-k r u (placed e c))

@@ -5,13 +5,13 @@ use Prim.Native.Nat.{ℕ}
 use mathlib.Core.List.{List}
 use lib.ListN.{length}
 use Rattle.model.specs.State.{State}
-use Rattle.model.specs.Words.{read, over}
+use Rattle.model.specs.Words.{read, writtenOver}
 use Rattle.model.proofs.WellFormed.{Chained, Holds}
 use Rattle.model.proofs.ReadBack.{read-back, over-over, over-holds}
 
 -- the words u are those of s written over t
 pub record Next (t : List ℕ) (s : State) (u : List ℕ) : Type 0 where
-  pub is : u ≡ over s t
+  pub is : u ≡ writtenOver s t
   pub holds : Holds u s
 
 pub next-start : {t : List ℕ} → Holds t (read t) → Next t (read t) t
@@ -25,11 +25,11 @@ module _ {t : List ℕ} {s : State} {u : List ℕ} (x : Next t s u) where
   next-holds = subst (Holds u) (sym next-read) (x .holds)
 
   -- one step more, which leaves f of the state: the chains stay in order, and there are as many slots
-  pub next-then : (f : State → State) → Chained (f s) → length (f s .slots) ≡ length (s .slots) → f s .room ≡ s .room
-      → {v : List ℕ} → v ≡ over (f (read u)) u → Next t (f s) v
-  next-then f c e r {v} is =
-      let at : v ≡ over (f s) u = is ∙ ap (λ (z : State). over (f z) u) next-read in
+  pub next-then : (f : State → State) → Chained (f s) → length (f s .slots) ≡ length (s .slots)
+      → {v : List ℕ} → v ≡ writtenOver (f (read u)) u → Next t (f s) v
+  next-then f c e {v} is =
+      let at : v ≡ writtenOver (f s) u = is ∙ ap (λ (z : State). writtenOver (f z) u) next-read in
       record {
-        is = at ∙ ap (over (f s)) (x .is) ∙ over-over s (f s) t e;
-        holds = subst (λ (w : List ℕ). Holds w (f s)) (sym at) (over-holds u s (f s) (x .holds) c e r);
+        is = at ∙ ap (writtenOver (f s)) (x .is) ∙ over-over s (f s) t e;
+        holds = subst (λ (w : List ℕ). Holds w (f s)) (sym at) (over-holds u s (f s) (x .holds) c e);
       }

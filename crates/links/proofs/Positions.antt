@@ -11,9 +11,9 @@ use Rattle.model.specs.State.{Link, State, chainOf, waitAt}
 use Rattle.model.proofs.ListLaws.{cases}
 use Rattle.model.proofs.WellFormed.{timesIn, Chained}
 use Rattle.model.proofs.Chains.{times-own, once, met-in-range}
-use Rattle.model.proofs.Spelling.{absent}
+use Rattle.model.proofs.StateWords.{absent}
 use Rattle.links.specs.Places.{lastSlot, lastWait}
-use Rattle.links.proofs.Middle.{times-more}
+use Rattle.links.proofs.LinkInMiddle.{times-more}
 
 -- the number of links up to slot i, its own counted: slot i is in so many tails of the chain; 0 where it is not there
 abbrev pub position : ℕ → List Link → ℕ

@@ -5,25 +5,27 @@ use mathlib.Core.Path.{_≡_, refl, sym, ap, _∙_, subst}
 use mathlib.Core.Logic.{_≢_}
 use Prim.Native.Nat.{ℕ, _+_, _≤_, _<_}
 use native.Mathlib.Omega.{arith}
-use mathlib.Core.Bool.{Bool, cond}
+use mathlib.Core.Bool.{Bool, false, cond}
 use mathlib.Core.List.{List, [], _∷_, _++_}
 use lib.ListN.{length, getD}
 use lib.Dec.{ltb, eqb}
 use borrow.Author.Tests.{ltb-true, ltb-false, eqb-true, eqb-false, eq-eqb, ne-eqb}
 use Rattle.model.specs.declared.Chain.{Chain}
 use Rattle.model.specs.declared.Chain.the-variants.{ByTicks, ByDate}
-use Rattle.model.specs.State.{Link, Clock, State, chainOf, rechain, putAt}
-use Rattle.model.specs.Words.{first, difference, write, over, word, field, headWord, slotFrom}
-use Rattle.model.proofs.ListLaws.{cases, count-append}
-use Rattle.model.proofs.Each.{end, _&_, each-at}
+use Rattle.model.specs.Kinds.{sameChain}
+use Rattle.model.specs.State.{Link, Clock, State, chainOf, withChain, putAt}
+use Rattle.model.specs.Words.{first, difference, write, writtenOver, word, field, headWord, slotFrom, ticksInto}
+use Rattle.model.proofs.ListLaws.{cases, clash, count-append}
+use Rattle.model.proofs.EachPlace.{end, _&_, each-at}
 use Rattle.model.proofs.Slots.{at-same, at-other, length-put}
 use Rattle.model.proofs.WellFormed.{timesIn, Chained, Holds}
-use Rattle.model.proofs.Chains.{times-own, other, both-chains, met-in-range}
-use Rattle.model.proofs.Spelling.{headWords, linkWord, link-field, Lay, Loose, Parts, holds-parts, parts-holds, Linked, linked-lay, holds-linked}
-use Rattle.model.proofs.Steps.{rechain-slots, rechain-clock, rechain-room, rechain-own, rechain-other}
+use Rattle.model.proofs.Chains.{times-own, met-in-range}
+use Rattle.model.proofs.KindLaws.{each-chain}
+use Rattle.model.proofs.StateWords.{headWords, linkWord, link-field, Lay, Loose, Parts, holds-parts, parts-holds, Linked, linked-lay, holds-linked}
+use Rattle.model.proofs.Steps.{with-chain-slots, with-chain-clock, with-chain-own, with-chain-apart, with-chain-each}
 use Rattle.links.specs.Places.{lastSlot, lastWait}
-use Rattle.links.proofs.Middle.{times-more, times-mid, times-at}
-use Rattle.links.proofs.Surgery.{head-low, Edit, slotOf, own-slot, kept, kept-link, kept-head, kept-rest}
+use Rattle.links.proofs.LinkInMiddle.{times-more, times-mid, times-at}
+use Rattle.chains.proofs.EditedWords.{head-low, Edit, slotOf, own-slot, kept, kept-link, kept-head, kept-rest}
 
 -- ---- neighbours
 
@@ -44,7 +46,8 @@ times-but j xs e ys n = times-mid j xs e ys ∙ rw (ne-eqb (e .slot) j (λ r. n 
 
 -- the chain k of s, but for the link e, is xs and ys; with e it is in order
 pub record Around (k : Chain) (s : State) (xs : List Link) (e : Link) (ys : List Link) : Type 0 where
-  pub once : (j : ℕ) → timesIn (xs ++ e ∷ ys) j + timesIn (chainOf (other k) s) j ≤ 1
+  pub once : (j : ℕ) → timesIn (xs ++ e ∷ ys) j ≤ 1
+  pub apart : (m : Chain) → sameChain m k ≡ false → (j : ℕ) → timesIn (xs ++ e ∷ ys) j + timesIn (chainOf m s) j ≤ 1
   pub within : (j : ℕ) → 0 < timesIn (xs ++ e ∷ ys) j → (0 < j) × (j ≤ length (s .slots))
   pub same : (j : ℕ) → j ≢ e .slot → timesIn (chainOf k s) j ≡ timesIn (xs ++ ys) j
 
@@ -55,16 +58,17 @@ module _ {k : Chain} {s : State} {xs : List Link} {e : Link} {ys : List Link} (a
   pub own-within : (0 < e .slot) × (e .slot ≤ length (s .slots))
   own-within = a .within (e .slot) (omega (arith, times-at xs e ys))
 
-  -- a slot of one part is not in another
-  not-own : (j : ℕ) → 0 < timesIn xs j + timesIn ys j + timesIn (chainOf (other k) s) j → j ≢ e .slot
-  not-own j m r =
-      omega (arith, a .once j, m, parts j, ap {B = ℕ} (λ (b : Bool). cond b 1 0) (eq-eqb (e .slot) j (sym r)))
+  -- a slot of one part is not in another, nor is one that stands c times elsewhere
+  module _ (j c : ℕ) (one : timesIn (xs ++ e ∷ ys) j + c ≤ 1) where
+    not-own : 0 < timesIn xs j + timesIn ys j + c → j ≢ e .slot
+    not-own m r =
+        omega (arith, one, m, parts j, ap {B = ℕ} (λ (b : Bool). cond b 1 0) (eq-eqb (e .slot) j (sym r)))
 
-  not-last : (j : ℕ) → 0 < j → 0 < timesIn ys j + timesIn (chainOf (other k) s) j → j ≢ lastSlot 0 xs
-  not-last j p m r = omega (arith, a .once j, m, parts j, last-met xs (omega arith), ap (timesIn xs) r)
+    not-last : 0 < j → 0 < timesIn ys j + c → j ≢ lastSlot 0 xs
+    not-last p m r = omega (arith, one, m, parts j, last-met xs (omega arith), ap (timesIn xs) r)
 
-  not-first : (j : ℕ) → 0 < j → 0 < timesIn xs j + timesIn (chainOf (other k) s) j → j ≢ first ys
-  not-first j p m r = omega (arith, a .once j, m, parts j, first-met ys (omega arith), ap (timesIn ys) r)
+    not-first : 0 < j → 0 < timesIn xs j + c → j ≢ first ys
+    not-first p m r = omega (arith, one, m, parts j, first-met ys (omega arith), ap (timesIn ys) r)
 
   own-nowhere : timesIn xs (e .slot) + timesIn ys (e .slot) ≡ 0
   own-nowhere = omega (arith, a .once (e .slot), times-at xs e ys, count-append (λ w. eqb (w .slot) (e .slot)) xs ys)
@@ -115,7 +119,7 @@ module _ {k : Chain} {t u : List ℕ} {p l n q v i : ℕ} {ws : List ℕ} (edit 
   unmoved m o b [] a h = tt
   unmoved m o b (w ∷ ws) a h =
       let own = a (w .slot) (omega (arith, times-own w ws)) in
-      let at : (f : ℕ) → f < 8 → field u f (w .slot) ≡ field t f (w .slot) =
+      let at : (f : ℕ) → f < 8 → field u (w .slot) f ≡ field t (w .slot) f =
       λ f f8. kept edit (w .slot) f (own .0) f8 (own .1) (λ _. own .2) (λ _. own .3) (λ _. own .3) in (
         record { next = at 6 (omega arith) ∙ h .0 .next; previous = at 7 (omega arith) ∙ h .0 .previous; wait = at 3 (omega arith) ∙ h .0 .wait },
         unmoved m (w .slot) (w .wait) ws (λ j m. a j (omega (arith, m, times-more w ws j))) (h .1),
@@ -127,7 +131,7 @@ module _ {k : Chain} {t u : List ℕ} {p l n q v i : ℕ} {ws : List ℕ} (edit 
   front [] c c′ o b e oi out one a h g = subst (λ (m : ℕ). Led k u m b c′) (sym e) g
   front (x ∷ xs) c c′ o b e oi out one a h g =
       let own = a (x .slot) (omega (arith, times-own x xs)) in
-      let at : (f : ℕ) → f < 8 → f ≢ 6 → field u f (x .slot) ≡ field t f (x .slot) =
+      let at : (f : ℕ) → f < 8 → f ≢ 6 → field u (x .slot) f ≡ field t (x .slot) f =
       λ f f8 f6. kept edit (x .slot) f (own .0) f8 (own .1) (λ z. absurd (f6 z)) (λ _. own .2) (λ _. own .2) in
       let rest = front xs c c′ (x .slot) (x .wait) e (own .1) (omega (arith, one (x .slot), times-own x xs)) (λ j. omega (arith, one j, times-more x xs j))
       (λ j m. a j (omega (arith, m, times-more x xs j)))
@@ -183,9 +187,11 @@ not-head : (k : Chain) (m : ℕ) → m ≢ 5 → m ≢ 6 → m ≢ headWord k
 not-head ByTicks m a b = a
 not-head ByDate m a b = b
 
-other-head : (k : Chain) → headWord (other k) ≢ headWord k
-other-head ByTicks = omega arith
-other-head ByDate = omega arith
+other-head : (m k : Chain) → sameChain m k ≡ false → headWord m ≢ headWord k
+other-head ByTicks ByTicks e = clash e
+other-head ByTicks ByDate e = omega arith
+other-head ByDate ByTicks e = omega arith
+other-head ByDate ByDate e = clash e
 
 module _ {k : Chain} {t u : List ℕ} {s : State} {xs : List Link} {e : Link} {ys : List Link} {l q v : ℕ} {ws : List ℕ}
     (h : Holds t s) (a : Around k s xs e ys) (edit : Edit k t u (lastSlot 0 xs) l (first ys) q v (e .slot) ws) where
@@ -193,7 +199,10 @@ module _ {k : Chain} {t u : List ℕ} {s : State} {xs : List Link} {e : Link} {y
   pub led-front : (c c′ : List Link) → chainOf k s ≡ xs ++ c → Led k u (lastSlot 0 xs) (lastWait 0 xs) c′ → Led k u 0 0 (xs ++ c′)
   led-front c c′ whole g =
       front edit xs c c′ 0 0 refl (λ r. omega (arith, own-within a .0)) none (λ j. omega (arith, a .once j, parts a j))
-      (λ j m. let p = a .within j (omega (arith, m, parts a j)) .0 in (p, not-own a j (omega (arith, m)), not-first a j p (omega (arith, m))))
+      (λ j m.
+      let p = a .within j (omega (arith, m, parts a j)) .0 in
+      let one : timesIn (xs ++ e ∷ ys) j + 0 ≤ 1 = omega (arith, a .once j) in
+      (p, not-own a j 0 one (omega (arith, m)), not-first a j 0 one p (omega (arith, m))))
       (subst (Led k t 0 0) whole (holds-led t s h k)) g
     where
       none : timesIn xs 0 ≡ 0
@@ -204,29 +213,34 @@ module _ {k : Chain} {t u : List ℕ} {s : State} {xs : List Link} {e : Link} {y
 
   pub led-back : (o b b′ : ℕ) → ((y : Link) (zs : List Link) → ys ≡ y ∷ zs → v ≡ difference k b′ (y .wait)) → Linked k t o b ys → Linked k u q b′ ys
   led-back o b b′ ev = back edit ys o b b′ refl ev (λ j. omega (arith, a .once j, parts a j))
-      (λ j m. let p = a .within j (omega (arith, m, parts a j)) .0 in (p, not-own a j (omega (arith, m)), not-last a j p (omega (arith, m))))
+      (λ j m.
+      let p = a .within j (omega (arith, m, parts a j)) .0 in
+      let one : timesIn (xs ++ e ∷ ys) j + 0 ≤ 1 = omega (arith, a .once j) in
+      (p, not-own a j 0 one (omega (arith, m)), not-last a j 0 one p (omega (arith, m))))
 
-  other-lay : Lay (other k) u (chainOf (other k) s)
-  other-lay =
-      linked-lay (other k) u (chainOf (other k) s)
-      (kept-head edit (headWord (other k)) (head-low (other k)) (other-head k) ∙ holds-led t s h (other k) .link)
-      (unmoved edit (other k) 0 0 (chainOf (other k) s) (λ j m.
-      let p = met-in-range s (h .chained) (other k) j m .0 in
-      (p, not-own a j (omega (arith, m)), not-last a j p (omega (arith, m)), not-first a j p (omega (arith, m))))
-      (holds-led t s h (other k) .linked))
+  other-lay : (m : Chain) → sameChain m k ≡ false → Lay m u (chainOf m s)
+  other-lay o away =
+      linked-lay o u (chainOf o s)
+      (kept-head edit (headWord o) (head-low o) (other-head o k away) ∙ holds-led t s h o .link)
+      (unmoved edit o 0 0 (chainOf o s) (λ j m.
+      let p = met-in-range s (h .chained) o j m .0 in
+      let c = timesIn (chainOf o s) j in
+      let one = a .apart o away j in
+      (p, not-own a j c one (omega (arith, m)), not-last a j c one p (omega (arith, m)), not-first a j c one p (omega (arith, m))))
+      (holds-led t s h o .linked))
 
   -- a slot in no chain
   loose-kept : (j : ℕ) → 0 < j → j ≢ e .slot → timesIn (xs ++ ys) j ≡ 0 → Loose t j → Loose u j
   loose-kept j p ji z g =
       let none : timesIn xs j + timesIn ys j ≡ 0 = omega (arith, z, count-append (λ w. eqb (w .slot) j) xs ys) in
-      let at : (f : ℕ) → f < 8 → field u f j ≡ field t f j =
+      let at : (f : ℕ) → f < 8 → field u j f ≡ field t j f =
       λ f f8. kept edit j f p f8 ji (λ _ r. omega (arith, last-met xs (omega arith), ap (timesIn xs) r))
       (λ _ r. omega (arith, first-met ys (omega arith), ap (timesIn ys) r)) (λ _ r. omega (arith, first-met ys (omega arith), ap (timesIn ys) r)) in
       record { wait = at 3 (omega arith) ∙ g .wait; next = at 6 (omega arith) ∙ g .next; previous = at 7 (omega arith) ∙ g .previous }
 
   slot-kept : (j : ℕ) → 0 < j → j ≢ e .slot → slotFrom u j ≡ slotFrom t j
   slot-kept j p ji =
-      let at : (f : ℕ) → f < 8 → f ≢ 6 → f ≢ 3 → f ≢ 7 → field u f j ≡ field t f j =
+      let at : (f : ℕ) → f < 8 → f ≢ 6 → f ≢ 3 → f ≢ 7 → field u j f ≡ field t j f =
       λ f f8 f6 f3 f7. kept edit j f p f8 ji (λ z. absurd (f6 z)) (λ z. absurd (f3 z)) (λ z. absurd (f7 z)) in
       λ d. record {
         kind = at 0 (omega arith) (omega arith) (omega arith) (omega arith) d;
@@ -238,30 +252,28 @@ module _ {k : Chain} {t u : List ℕ} {s : State} {xs : List Link} {e : Link} {y
 
   module _ (c : List Link) (led : Led k u 0 0 c) (but : (j : ℕ) → j ≢ e .slot → timesIn c j ≡ timesIn (xs ++ ys) j)
       (out : timesIn c (e .slot) ≡ 0 → Loose u (e .slot)) where
-    after : Parts u (rechain k s (putAt (s .slots) (e .slot) (slotOf ws)) c)
+    after : Parts u (withChain k s (putAt (s .slots) (e .slot) (slotOf ws)) c)
     after =
         let slots = putAt (s .slots) (e .slot) (slotOf ws) in
         let before = holds-parts t s h in
-        let size : length (rechain k s slots c .slots) ≡ length (s .slots) =
-        ap length (rechain-slots s slots c k) ∙ length-put (s .slots) (e .slot) (slotOf ws) in
+        let size : length (withChain k s slots c .slots) ≡ length (s .slots) =
+        ap length (with-chain-slots s slots c k) ∙ length-put (s .slots) (e .slot) (slotOf ws) in
         record {
           heads = λ m p f g. kept-head edit m p (not-head k m f g) ∙ before .heads m p f g
-              ∙ same-heads s (rechain k s slots c) (sym size) (sym (rechain-clock s slots c k)) m p f g;
-          lay = both-chains (λ m. Lay m u (chainOf m (rechain k s slots c))) k
-              (subst (Lay k u) (sym (rechain-own s slots c k)) (linked-lay k u c (led .link) (led .linked)))
-              (subst (Lay (other k) u) (sym (rechain-other s slots c k)) other-lay);
+              ∙ same-heads s (withChain k s slots c) (sym size) (sym (with-chain-clock s slots c k)) m p f g;
+          lay = with-chain-each s slots c (λ m l. Lay m u l) k (linked-lay k u c (led .link) (led .linked)) other-lay;
           loose = λ j p b z. cases (eqb j (e .slot))
               (λ f.
               let is = eqb-true j (e .slot) f in
-              rw is (out (ap (timesIn c) (sym is) ∙ ap (λ (d : List Link). timesIn d j) (sym (rechain-own s slots c k)) ∙ z k)))
+              rw is (out (ap (timesIn c) (sym is) ∙ ap (λ (d : List Link). timesIn d j) (sym (with-chain-own s slots c k)) ∙ z k)))
               (λ f.
               let ji = eqb-false j (e .slot) f in
-              let zk : timesIn c j ≡ 0 = ap (λ (d : List Link). timesIn d j) (sym (rechain-own s slots c k)) ∙ z k in
+              let zk : timesIn c j ≡ 0 = ap (λ (d : List Link). timesIn d j) (sym (with-chain-own s slots c k)) ∙ z k in
               loose-kept j p ji (sym (but j ji) ∙ zk)
-              (before .loose j p (omega arith) (both-chains (λ m. timesIn (chainOf m s) j ≡ 0) k
+              (before .loose j p (omega arith) (each-chain (λ m. timesIn (chainOf m s) j ≡ 0) k
               (a .same j ji ∙ sym (but j ji) ∙ zk)
-              (ap (λ (d : List Link). timesIn d j) (sym (rechain-other s slots c k)) ∙ z (other k)))));
-          slots = λ j p b. rw (rechain-slots s slots c k) (cases (eqb j (e .slot))
+              (λ m away. ap (λ (d : List Link). timesIn d j) (sym (with-chain-apart s slots c k m away)) ∙ z m))));
+          slots = λ j p b. rw (with-chain-slots s slots c k) (cases (eqb j (e .slot))
               (λ f.
               let is = eqb-true j (e .slot) f in
               rw is (own-slot edit ∙ sym (at-same (s .slots) (e .slot) (slotOf ws) (own-within a .0) (own-within a .1))))
@@ -270,12 +282,11 @@ module _ {k : Chain} {t u : List ℕ} {s : State} {xs : List Link} {e : Link} {y
               slot-kept j p ji ∙ before .slots j p (omega arith) ∙ sym (at-other (s .slots) (e .slot) j (slotOf ws) ji)));
         }
 
-    pub edited : (s′ : State) → rechain k s (putAt (s .slots) (e .slot) (slotOf ws)) c ≡ s′ → Chained s′ → u ≡ over s′ t
+    pub edited : (s′ : State) → withChain k s (putAt (s .slots) (e .slot) (slotOf ws)) c ≡ s′ → Chained s′ → u ≡ writtenOver s′ t
     edited s′ is ok =
         let slots = putAt (s .slots) (e .slot) (slotOf ws) in
         let size : length (s′ .slots) ≡ length (s .slots) =
-        ap (λ (x : State). length (x .slots)) (sym is) ∙ ap length (rechain-slots s slots c k) ∙ length-put (s .slots) (e .slot) (slotOf ws) in
-        let room : s′ .room ≡ length u = ap (λ (x : State). x .room) (sym is) ∙ rechain-room s slots c k ∙ h .room ∙ sym (edit .long) in
-        let held = parts-holds u s′ ok (subst (Parts u) is after) (omega (arith, h .long, edit .long)) room in
+        ap (λ (x : State). length (x .slots)) (sym is) ∙ ap length (with-chain-slots s slots c k) ∙ length-put (s .slots) (e .slot) (slotOf ws) in
+        let held = parts-holds u s′ ok (subst (Parts u) is after) (omega (arith, h .long, edit .long)) in
         sym (held .is) ∙ ap (write s′) (kept-rest edit (length (s′ .slots))
         (omega (arith, last-high a)) (omega (arith, first-high a)) (omega (arith, own-within a .1)))

@@ -5,25 +5,25 @@ use Prim.Native.Nat.{ℕ}
 use native.Mathlib.Omega.{arith}
 use mathlib.Core.List.{List}
 use lib.ListN.{length}
-use Rattle.model.specs.declared.Chain.{Chain}
-use Rattle.model.specs.Kinds.{waitsIn}
+use Rattle.model.specs.declared.Mode.{Mode}
+use Rattle.model.specs.Kinds.{chainFor, waitsIn}
 use Rattle.model.specs.State.{Slot, Link, State, slotAt, without}
-use Rattle.model.specs.Directives.{stopped, idled, queued, waitingAs, started}
-use Rattle.model.specs.Words.{over, field, read}
+use Rattle.model.specs.Directives.{stopped, idled, inserted, waitingAs, started}
+use Rattle.model.specs.Words.{writtenOver, read, kindOf}
 use Rattle.model.proofs.Slots.{at-same, put-put}
-use Rattle.model.proofs.Chains.{times-without, without-none, idle-not-waiting}
-use Rattle.model.proofs.Spelling.{holds-parts}
+use Rattle.model.proofs.Chains.{times-without, without-none}
+use Rattle.model.proofs.KindLaws.{stopped-not-in}
+use Rattle.model.proofs.StateWords.{holds-parts}
 use Rattle.model.proofs.ReadBack.{count-is, over-over}
 use Rattle.model.proofs.Steps.{length-stopped, chained-stopped, length-started}
 use Rattle.links.specs.Places.{InTable, IdleInTable}
-use Rattle.links.proofs.Cutting.{in-slots}
+use Rattle.links.proofs.Extracting.{in-slots}
 use Rattle.links.proofs.NextState.{Next, next-start, next-read, next-holds, next-then}
 
 stopped-twice : (s : State) (i : ℕ) (x y : Slot) → stopped (stopped s i x) i y ≡ stopped s i y
 stopped-twice s i x y =
     let once : (l : List Link) → without i (without i l) ≡ without i l = λ l. without-none i (without i l) (times-without i l) in
     λ d. record {
-      room = s .room;
       slots = put-put (s .slots) i x y d;
       clock = s .clock;
       ticking = once (s .ticking) d;
@@ -34,13 +34,13 @@ abbrev pub stoppedAt : List ℕ → ℕ → State
 stoppedAt t i = stopped (read t) i (idled (slotAt (read t .slots) i))
 
 -- u is the table after the stop
-module _ (t : List ℕ) (i : ℕ) (h : InTable t i) (u : List ℕ) (is : u ≡ over (stoppedAt t i) t) where
+module _ (t : List ℕ) (i : ℕ) (h : InTable t i) (u : List ℕ) (is : u ≡ writtenOver (stoppedAt t i) t) where
   pub stop-next : Next t (stoppedAt t i) u
   stop-next =
       let x = slotAt (read t .slots) i in
       next-then (next-start (h .holds)) (λ s. stopped s i (idled (slotAt (s .slots) i)))
-      (chained-stopped (read t) (h .holds .chained) i (idled x) (h .low) (in-slots t i h) (λ k. idle-not-waiting k (x .kind)))
-      (length-stopped (read t) i (idled x)) refl is
+      (chained-stopped (read t) (h .holds .chained) i (idled x) (h .low) (in-slots t i h) (λ k. stopped-not-in k (x .kind)))
+      (length-stopped (read t) i (idled x)) is
 
   slot-now : slotAt (stoppedAt t i .slots) i ≡ idled (slotAt (read t .slots) i)
   slot-now = at-same (read t .slots) i (idled (slotAt (read t .slots) i)) (h .low) (in-slots t i h)
@@ -56,18 +56,17 @@ module _ (t : List ℕ) (i : ℕ) (h : InTable t i) (u : List ℕ) (is : u ≡ o
       high = omega (arith, count-is u (stoppedAt t i) (stop-next .holds), size-now, in-slots t i h);
     };
     idle = λ k.
-        let kind : field u 0 i ≡ slotAt (stoppedAt t i .slots) i .kind =
+        let kind : kindOf u i ≡ slotAt (stoppedAt t i .slots) i .kind =
         ap (λ (x : Slot). x .kind) (holds-parts u (stoppedAt t i) (stop-next .holds) .slots i (h .low) (omega (arith, size-now, in-slots t i h))) in
-        ap (waitsIn k) (kind ∙ ap (λ (x : Slot). x .kind) slot-now) ∙ idle-not-waiting k (slotAt (read t .slots) i .kind);
+        ap (waitsIn k) (kind ∙ ap (λ (x : Slot). x .kind) slot-now) ∙ stopped-not-in k (slotAt (read t .slots) i .kind);
   }
 
-  pub restarted : (k : Chain) (n interval r d : ℕ) (v : List ℕ) → v ≡ over (started k (read u) i n interval r d) u
-      → v ≡ over (started k (read t) i n interval r d) t
-  restarted k n interval r d v e =
+  pub restarted : (m : Mode) (n r d : ℕ) (v : List ℕ) → v ≡ writtenOver (started m (read u) i n r d) u → v ≡ writtenOver (started m (read t) i n r d) t
+  restarted m n r d v e =
       let s = stoppedAt t i in
       let x = slotAt (read t .slots) i in
-      e ∙ ap₂ (λ (z : State) (w : List ℕ). over (started k z i n interval r d) w) (next-read stop-next) is
-      ∙ over-over s (started k s i n interval r d) t (length-started k s i n interval r d)
-      ∙ ap (λ (z : State). over (queued k z i n) t)
-      (stopped-twice (read t) i (idled x) (waitingAs k (slotAt (s .slots) i) interval r d)
-      ∙ ap (λ (z : Slot). stopped (read t) i (waitingAs k z interval r d)) slot-now)
+      e ∙ ap₂ (λ (z : State) (w : List ℕ). writtenOver (started m z i n r d) w) (next-read stop-next) is
+      ∙ over-over s (started m s i n r d) t (length-started m s i n r d)
+      ∙ ap (λ (z : State). writtenOver (inserted (chainFor m) z i n) t)
+      (stopped-twice (read t) i (idled x) (waitingAs m (slotAt (s .slots) i) n r d)
+      ∙ ap (λ (z : Slot). stopped (read t) i (waitingAs m z n r d)) slot-now)

@@ -7,11 +7,12 @@ use mathlib.Core.List.{List, [], _∷_, _++_}
 use lib.ListN.{length, set, drop, length-set}
 use Rattle.model.specs.State.{Slot, Clock, State}
 use Rattle.model.specs.Directives.{stored}
-use Rattle.model.specs.Words.{slotWords, allSlots, over, read}
-use Rattle.model.proofs.Spelling.{headWords}
+use Rattle.model.specs.Words.{slotWords, allSlots, writtenOver, read}
+use Rattle.model.proofs.StateWords.{headWords}
 use Rattle.model.proofs.ReadBack.{slots-length}
-use Rattle.links.specs.Surgery.{fieldWord, filled}
+use Rattle.chains.specs.EditedWords.{fieldWord}
 use Rattle.links.specs.Places.{InTable}
+use Rattle.links.specs.TimerWords.{timerPut}
 
 -- the words of the slot x, at word m of l and those behind it
 abbrev spelt : List ℕ → ℕ → Slot → List ℕ
@@ -20,7 +21,7 @@ spelt l m x =
 
 -- the words of slots come from them and the chains, whatever else the state has
 pub same-slots : (s : State) (slots : List Slot) (clock : Clock) (b : ℕ) (xs : List Slot) (rest : List ℕ)
-    → allSlots (record { room = s .room; slots = slots; clock = clock; ticking = s .ticking; dated = s .dated }) b xs rest ≡ allSlots s b xs rest
+    → allSlots (record { slots = slots; clock = clock; ticking = s .ticking; dated = s .dated }) b xs rest ≡ allSlots s b xs rest
 same-slots s slots clock b [] rest = refl
 same-slots s slots clock b (x ∷ xs) rest = ap (slotWords s b x) (same-slots s slots clock (suc b) xs rest)
 
@@ -35,8 +36,8 @@ put-slot s b (suc j) x (y ∷ ys) rest p =
     at f = omega arith
 
 pub store-words : (t : List ℕ) (i : ℕ) (x : Slot) → InTable t i
-    → filled (set t (fieldWord i 1) (x .name)) i (x .kind) (x .interval) (x .routine) (x .userData) ≡ over (stored (read t) i x) t
-unfolding filled
+    → timerPut (set t (fieldWord i 1) (x .name)) i (x .kind) (x .interval) (x .routine) (x .userData) ≡ writtenOver (stored (read t) i x) t
+unfolding timerPut
 store-words t zero x h = absurd (omega (arith, h .low))
 store-words t (suc j) x h =
     let s = read t in

@@ -1,2 +1,2 @@
-pub mod Surgery
 pub mod Places
+pub mod TimerWords

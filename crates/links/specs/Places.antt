@@ -7,7 +7,7 @@ use lib.Dec.{leb}
 use Rattle.model.specs.declared.Chain.{Chain}
 use Rattle.model.specs.Kinds.{waitsIn}
 use Rattle.model.specs.State.{Link, State, chainOf}
-use Rattle.model.specs.Words.{word, field, read, difference}
+use Rattle.model.specs.Words.{word, read, difference, slotCount, kindOf}
 use Rattle.model.proofs.WellFormed.{Holds}
 
 -- the first links of a chain, whose wait is not above n, and the others
@@ -37,9 +37,9 @@ pub record At (k : Chain) (s : State) (n before wait : ℕ) : Type 0 where
 pub record InTable (t : List ℕ) (i : ℕ) : Type 0 where
   pub holds : Holds t (read t)
   pub low : 1 ≤ i
-  pub high : i ≤ word t 0
+  pub high : i ≤ slotCount t
 
 -- and does not wait
 pub record IdleInTable (t : List ℕ) (i : ℕ) : Type 0 where
   pub in-table : InTable t i
-  pub idle : (k : Chain) → waitsIn k (field t 0 i) ≡ false
+  pub idle : (k : Chain) → waitsIn k (kindOf t i) ≡ false

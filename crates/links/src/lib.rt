@@ -1,22 +1,21 @@
-// Timers go into the chains of a table and out of them. A chain is doubly linked: word 5 or 6 of the header holds its first slot, and each
-// slot the next and the previous one, 0 for none. In the interval chain a slot's wait is the ticks after the slot before it, so that its
-// follower's wait grows when it leaves and shrinks when it comes in front; in the dated chain a wait is the date itself.
+// Timers start to wait and stop: a slot goes into the chain of its kind, behind every one due by then, or out of it, and its other words say
+// what it waits for. What the chains are, and which words change, is in `chains`.
 ghost use mathlib.Core.Path.{_≡_};
 ghost use Prim.Native.Nat.{_+_, _*_, _<_, _≤_};
-ghost use lib.ListN.{length, set};
-ghost use Rattle.model.specs.Kinds.{waitingKind};
+ghost use lib.ListN.{length};
+ghost use Rattle.model.specs.Kinds.{chainFor, waitingKind};
 ghost use Rattle.model.specs.State.{slotAt, waitAt};
-ghost use Rattle.model.specs.Directives.{stored, stopped, idled, started};
-ghost use Rattle.model.specs.Words.{word, field, headWord, difference, read, over};
+ghost use Rattle.model.specs.Directives.{stored, stopped, idled, intervalIn, started};
+ghost use Rattle.model.specs.Words.{difference, read, writtenOver};
 ghost use Rattle.model.proofs.WellFormed.{Holds, timesIn};
-ghost use Rattle.model.proofs.Spelling.{linkWord};
-ghost use Rattle.model.proofs.Steps.{Within};
-ghost use Rattle.links.specs.Surgery.{joined, threaded, taken, given, cutOut, putIn, Cuttable, Open, filled};
 ghost use Rattle.links.specs.Places.{At, InTable, IdleInTable};
+ghost use Rattle.links.specs.TimerWords.{timerPut};
+use chains::extract;
+use chains::follower;
+use chains::insert;
 use model::Chain;
+use model::Mode;
 use table::DATA;
-use table::FIRST_DATED;
-use table::FIRST_TICKING;
 use table::IDLE_DATE;
 use table::IDLE_TICKS;
 use table::INTERVAL;
@@ -31,142 +30,49 @@ use table::WAITING_TICKS;
 use table::get;
 use table::put;
 
-// The header word of a chain's first slot.
-fn head_word(chain: Chain) -> usize
-    ensures { λ r. ⌜ r ≡ headWord chain ⌝ }
+// The chain in which a start waits.
+fn chain_for(mode: Mode) -> Chain
+    ensures { λ r. ⌜ r ≡ chainFor mode ⌝ }
+{
+    match mode {
+        Mode::After => Chain::ByTicks,
+        Mode::When => Chain::ByDate,
+    }
+}
+
+// The kind of a timer that was started.
+fn waiting_kind(mode: Mode) -> u32
+    ensures { λ r. ⌜ r ≡ waitingKind mode ⌝ }
+{
+    match mode {
+        Mode::After => WAITING_TICKS,
+        Mode::When => WAITING_DATE,
+    }
+}
+
+// The interval of a start: its ticks, none for a date.
+fn interval_in(chain: Chain, amount: u32) -> u32
+    ensures { λ r. ⌜ r ≡ intervalIn chain amount ⌝ }
 {
     match chain {
-        Chain::ByTicks => FIRST_TICKING,
-        Chain::ByDate => FIRST_DATED,
+        Chain::ByTicks => amount,
+        Chain::ByDate => 0,
     }
-}
-
-// The kind of a timer that waits in a chain.
-fn waiting_kind(chain: Chain) -> u32
-    ensures { λ r. ⌜ r ≡ waitingKind chain ⌝ }
-{
-    match chain {
-        Chain::ByTicks => WAITING_TICKS,
-        Chain::ByDate => WAITING_DATE,
-    }
-}
-
-// What follows slot p in a chain; its first slot where p is 0.
-pub fn follower(t: &[u32], chain: Chain, p: u32) -> u32
-    requires { ⌜ 8 * p + 10 ≤ length (now t) ⌝ }
-    ensures { λ r. ⌜ r ≡ word (now (t .entry)) (linkWord chain p) ⌝ }
-{
-    if p != 0 {
-        return get(t, p, NEXT);
-    }
-    let at = head_word(chain);
-    t[at]
-}
-
-// The word that links to what follows slot p becomes n.
-fn put_link(t: &mut [u32], chain: Chain, p: u32, n: u32)
-    requires { ⌜ 8 * p + 10 ≤ length (now t) ⌝ }
-    ensures { λ _. ⌜ now (t .exit) ≡ set (now (t .entry)) (linkWord chain p) n ⌝ }
-{
-    if p == 0 {
-        let at = head_word(chain);
-        t[at] = n;
-    } else {
-        put(t, p, NEXT, n);
-    }
-}
-
-// Slot n, if there is one, gets previous q and wait v.
-fn join(t: &mut [u32], n: u32, q: u32, v: u32)
-    requires { ⌜ 8 * n + 10 ≤ length (now t) ⌝ }
-    ensures { λ _. ⌜ now (t .exit) ≡ joined (now (t .entry)) n q v ⌝ }
-{
-    if n == 0 {
-        return;
-    }
-    put(t, n, PREVIOUS, q);
-    put(t, n, WAIT, v);
-}
-
-// Wait, next and previous of slot i.
-fn thread(t: &mut [u32], i: u32, w: u32, n: u32, p: u32)
-    requires { ⌜ 8 * i + 10 ≤ length (now t) ⌝ }
-    ensures { λ _. ⌜ now (t .exit) ≡ threaded (now (t .entry)) i w n p ⌝ }
-{
-    put(t, i, WAIT, w);
-    put(t, i, NEXT, n);
-    put(t, i, PREVIOUS, p);
-}
-
-// The wait of slot n, if there is one, after the slot before it, of wait w, left the chain.
-fn take_over(t: &[u32], chain: Chain, n: u32, w: u32) -> u32
-    requires { ⌜ (8 * n + 10 ≤ length (now t)) × (taken chain (now t) n w < 4294967296) ⌝ }
-    ensures { λ r. ⌜ r ≡ taken chain (now (t .entry)) n w ⌝ }
-{
-    if n == 0 {
-        return 0;
-    }
-    let v = get(t, n, WAIT);
-    match chain {
-        Chain::ByTicks => v + w,
-        Chain::ByDate => v,
-    }
-}
-
-// The wait of slot n, if there is one, after one of wait w came in front of it.
-fn give_over(t: &[u32], chain: Chain, n: u32, w: u32) -> u32
-    requires { ⌜ (8 * n + 10 ≤ length (now t)) × (chain ≡ Chain.ByTicks → 0 < n → w ≤ field (now t) 3 n) ⌝ }
-    ensures { λ r. ⌜ r ≡ given chain (now (t .entry)) n w ⌝ }
-{
-    if n == 0 {
-        return 0;
-    }
-    let v = get(t, n, WAIT);
-    match chain {
-        Chain::ByTicks => v - w,
-        Chain::ByDate => v,
-    }
-}
-
-// Slot i leaves its chain.
-fn cut(t: &mut [u32], chain: Chain, i: u32)
-    requires { ⌜ Cuttable chain (now t) i ⌝ }
-    ensures { λ _. ⌜ now (t .exit) ≡ cutOut chain (now (t .entry)) i ⌝ }
-{
-    let n = get(t, i, NEXT);
-    let p = get(t, i, PREVIOUS);
-    let w = get(t, i, WAIT);
-    let v = take_over(t, chain, n, w);
-    put_link(t, chain, p, n);
-    join(t, n, p, v);
-    thread(t, i, 0, 0, 0);
-}
-
-// Slot i comes behind slot p, with wait w.
-fn insert(t: &mut [u32], chain: Chain, p: u32, i: u32, w: u32)
-    requires { ⌜ Open chain (now t) p i w ⌝ }
-    ensures { λ _. ⌜ now (t .exit) ≡ putIn chain (now (t .entry)) p i w ⌝ }
-{
-    let n = follower(t, chain, p);
-    let v = give_over(t, chain, n, w);
-    put_link(t, chain, p, i);
-    join(t, n, i, v);
-    thread(t, i, w, n, p);
 }
 
 // A waiting timer becomes idle of its own kind; one that does not wait stays as it is.
 pub fn stop(t: &mut [u32], i: u32)
     requires { ⌜ InTable (now t) i ⌝ }
-    ensures { λ _. ⌜ now (t .exit) ≡ over (stopped (read (now (t .entry))) i (idled (slotAt (read (now (t .entry)) .slots) i))) (now (t .entry)) ⌝ }
+    ensures { λ _. ⌜ now (t .exit) ≡ writtenOver (stopped (read (now (t .entry))) i (idled (slotAt (read (now (t .entry)) .slots) i))) (now (t .entry)) ⌝ }
 {
     let kind = get(t, i, KIND);
     if kind == WAITING_TICKS {
-        cut(t, Chain::ByTicks, i);
+        extract(t, Chain::ByTicks, i);
         put(t, i, KIND, IDLE_TICKS);
         return;
     }
     if kind == WAITING_DATE {
-        cut(t, Chain::ByDate, i);
+        extract(t, Chain::ByDate, i);
         put(t, i, KIND, IDLE_DATE);
     }
 }
@@ -217,9 +123,9 @@ fn find_place(t: &[u32], chain: Chain, n: u32) -> Place
 }
 
 // Kind, interval, routine and user data of slot i.
-fn fill(t: &mut [u32], i: u32, kind: u32, interval: u32, routine: u32, user_data: u32)
+fn put_timer(t: &mut [u32], i: u32, kind: u32, interval: u32, routine: u32, user_data: u32)
     requires { ⌜ 8 * i + 10 ≤ length (now t) ⌝ }
-    ensures { λ _. ⌜ now (t .exit) ≡ filled (now (t .entry)) i kind interval routine user_data ⌝ }
+    ensures { λ _. ⌜ now (t .exit) ≡ timerPut (now (t .entry)) i kind interval routine user_data ⌝ }
 {
     put(t, i, KIND, kind);
     put(t, i, INTERVAL, interval);
@@ -228,49 +134,36 @@ fn fill(t: &mut [u32], i: u32, kind: u32, interval: u32, routine: u32, user_data
 }
 
 // A timer that does not wait starts to wait, behind every timer due at the same tick or date.
-fn start_idle(
-    t: &mut [u32],
-    chain: Chain,
-    i: u32,
-    wait: u32,
-    interval: u32,
-    routine: u32,
-    user_data: u32,
-)
-    requires { ⌜ IdleInTable (now t) i × Within chain wait interval ⌝ }
-    ensures { λ _. ⌜ now (t .exit) ≡ over (started chain (read (now (t .entry))) i wait interval routine user_data) (now (t .entry)) ⌝ }
+fn start_idle(t: &mut [u32], mode: Mode, i: u32, amount: u32, routine: u32, user_data: u32)
+    requires { ⌜ IdleInTable (now t) i ⌝ }
+    ensures { λ _. ⌜ now (t .exit) ≡ writtenOver (started mode (read (now (t .entry))) i amount routine user_data) (now (t .entry)) ⌝ }
 {
-    let place = find_place(t, chain, wait);
+    let chain = chain_for(mode);
+    let place = find_place(t, chain, amount);
     let p = place.before;
     let w = place.wait;
     insert(t, chain, p, i, w);
-    fill(t, i, waiting_kind(chain), interval, routine, user_data);
+    let kind = waiting_kind(mode);
+    let interval = interval_in(chain, amount);
+    put_timer(t, i, kind, interval, routine, user_data);
 }
 
 // A timer starts to wait, whatever it did before.
-pub fn start(
-    t: &mut [u32],
-    chain: Chain,
-    i: u32,
-    wait: u32,
-    interval: u32,
-    routine: u32,
-    user_data: u32,
-)
-    requires { ⌜ InTable (now t) i × Within chain wait interval ⌝ }
-    ensures { λ _. ⌜ now (t .exit) ≡ over (started chain (read (now (t .entry))) i wait interval routine user_data) (now (t .entry)) ⌝ }
+pub fn start(t: &mut [u32], mode: Mode, i: u32, amount: u32, routine: u32, user_data: u32)
+    requires { ⌜ InTable (now t) i ⌝ }
+    ensures { λ _. ⌜ now (t .exit) ≡ writtenOver (started mode (read (now (t .entry))) i amount routine user_data) (now (t .entry)) ⌝ }
 {
     stop(t, i);
-    start_idle(t, chain, i, wait, interval, routine, user_data);
+    start_idle(t, mode, i, amount, routine, user_data);
 }
 
 // A slot gets another kind and name, and what was stored at a start is cleared.
 pub fn store(t: &mut [u32], i: u32, kind: u32, name: u32)
     requires { ⌜ InTable (now t) i ⌝ }
-    ensures { λ _. ⌜ now (t .exit) ≡ over (stored (read (now (t .entry))) i (record { kind = kind; name = name; interval = 0; routine = 0; userData = 0 })) (now (t .entry)) ⌝ }
+    ensures { λ _. ⌜ now (t .exit) ≡ writtenOver (stored (read (now (t .entry))) i (record { kind = kind; name = name; interval = 0; routine = 0; userData = 0 })) (now (t .entry)) ⌝ }
 {
     put(t, i, NAME, name);
-    fill(t, i, kind, 0, 0, 0);
+    put_timer(t, i, kind, 0, 0, 0);
 }
 
 // The ticks left of a slot of the interval chain: its wait and those of every slot before it. The slice is reborrowed where it is passed

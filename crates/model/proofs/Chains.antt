@@ -2,16 +2,18 @@
 use mathlib.Core.Path.{_≡_, refl, sym, ap, _∙_, subst}
 use Prim.Native.Nat.{ℕ, zero, suc, _+_, _≤_, _<_}
 use native.Mathlib.Omega.{arith}
-use mathlib.Core.Bool.{true, false, cond, not}
+use mathlib.Core.Bool.{Bool, true, false, cond, not}
 use mathlib.Core.List.{List, [], _∷_, _++_, map, append-assoc}
 use lib.ListN.{length, length-append}
 use lib.Dec.{eqb}
 use borrow.Author.Tests.{eqb-true, eqb-false, eq-eqb, ne-eqb, not-true}
 use Rattle.model.specs.Lists.{All}
-use Rattle.model.specs.Kinds.{Chain, ByTicks, ByDate, waitingKind, waitsIn, idleOf}
+use Rattle.model.specs.Kinds.{Chain, ByTicks, ByDate, kindAt, sameChain, waitsIn}
 use Rattle.model.specs.State.{Link, State, chainOf, slotAt, without}
 use Rattle.model.specs.Directives.{closer}
+use Rattle.model.specs.Words.{sumOf}
 use Rattle.model.proofs.ListLaws.{cases, all-map, all-append, all-keep, all-passed, all-zip, count-append, count-keep}
+use Rattle.model.proofs.KindLaws.{one-chain}
 use Rattle.model.proofs.Slots.{in-range}
 use Rattle.model.proofs.WellFormed.{timesIn, Chained}
 
@@ -77,60 +79,29 @@ no-more-than-slots (suc n) l h k =
     smaller : (a : ℕ) → a ≤ suc n → (a ≡ suc n → ⊥) → a ≤ n
     smaller a p q = omega arith
 
--- ---- kinds
-
--- the other chain
-abbrev pub other : Chain → Chain
-other ByTicks = ByDate
-other ByDate = ByTicks
-
--- a chain is k or the other one
-pub both-chains : (P : Chain → Type 0) (k : Chain) → P k → P (other k) → (j : Chain) → P j
-both-chains P ByTicks p q ByTicks = p
-both-chains P ByTicks p q ByDate = q
-both-chains P ByDate p q ByTicks = q
-both-chains P ByDate p q ByDate = p
-
-waits-one : (kind : ℕ) → cond (waitsIn ByTicks kind) 1 0 + cond (waitsIn ByDate kind) 1 0 ≤ 1
-waits-one kind =
-    cases (waitsIn ByTicks kind)
-    (λ e. let z : kind ≡ 4 = eqb-true kind 4 e in rw z (omega arith))
-    (λ e. rw e (cases (waitsIn ByDate kind) (λ f. rw f (omega arith)) (λ f. rw f (omega arith))))
-
-waits-not-free : (k : Chain) (kind : ℕ) → 0 < cond (waitsIn k kind) 1 0 → kind ≡ 0 → ⊥
-waits-not-free k kind p e =
-    cases (waitsIn k kind) (λ f. positive k (sym (eqb-true kind (waitingKind k) f) ∙ e)) (λ f. let z : 0 < 0 = rw f at p in omega arith)
-  where
-    positive : (k : Chain) → waitingKind k ≡ 0 → ⊥
-    positive ByTicks z = omega arith
-    positive ByDate z = omega arith
-
--- kinds below 4 wait in no chain
-pub below-waiting : (k : Chain) (kind : ℕ) → kind < 4 → waitsIn k kind ≡ false
-below-waiting ByTicks kind p = ne-eqb kind 4 (λ e. omega arith)
-below-waiting ByDate kind p = ne-eqb kind 5 (λ e. omega arith)
-
-pub idle-not-waiting : (k : Chain) (kind : ℕ) → waitsIn k (idleOf kind) ≡ false
-idle-not-waiting ByTicks kind =
-    cases (waitsIn ByTicks kind) (λ e. rw e) (λ e. cases (waitsIn ByDate kind) (λ f. rw (e, f)) (λ f. rw (e, f) e))
-idle-not-waiting ByDate kind =
-    cases (waitsIn ByTicks kind) (λ e. rw e) (λ e. cases (waitsIn ByDate kind) (λ f. rw (e, f)) (λ f. rw (e, f) f))
-
 -- ---- the chains of a state
 
-module _ (s : State) (h : Chained s) where
-  pub once-both : (i : ℕ) → timesIn (s .ticking) i + timesIn (s .dated) i ≤ 1
-  once-both i = omega (arith, h .meets ByTicks i, h .meets ByDate i, waits-one (slotAt (s .slots) i .kind))
+once-only : (b : Bool) → cond b 1 0 ≤ 1
+once-only true = omega arith
+once-only false = omega arith
 
-  pub once-either : (k : Chain) (i : ℕ) → timesIn (chainOf k s) i + timesIn (chainOf (other k) s) i ≤ 1
-  once-either ByTicks i = once-both i
-  once-either ByDate i = omega (arith, once-both i)
+-- a slot that is in a chain is not free
+in-not-free : (k : Chain) (kind : ℕ) → 0 < cond (waitsIn k kind) 1 0 → kind ≡ 0 → ⊥
+in-not-free k kind p e = let z : 0 < cond (waitsIn k 0) 1 0 = rw e at p in omega arith
+
+module _ (s : State) (h : Chained s) where
+  -- two chains have no slot in common
+  pub once-apart : (j k : Chain) → sameChain j k ≡ false → (i : ℕ) → timesIn (chainOf j s) i + timesIn (chainOf k s) i ≤ 1
+  once-apart j k e i = omega (arith, h .meets j i, h .meets k i, one-chain j k (kindAt (slotAt (s .slots) i .kind) .chain) e)
 
   pub once : (k : Chain) (i : ℕ) → timesIn (chainOf k s) i ≤ 1
-  once k i = omega (arith, once-either k i)
+  once k i = omega (arith, h .meets k i, once-only (waitsIn k (slotAt (s .slots) i .kind)))
+
+  pub once-all : (i : ℕ) → sumOf (λ _ c. timesIn c i) s ≤ 1
+  once-all i = once-apart ByTicks ByDate refl i
 
   pub met-in-range : (k : Chain) (i : ℕ) → 0 < timesIn (chainOf k s) i → (0 < i) × (i ≤ length (s .slots))
-  met-in-range k i p = in-range (s .slots) i (waits-not-free k (slotAt (s .slots) i .kind) (omega (arith, p, h .meets k i)))
+  met-in-range k i p = in-range (s .slots) i (in-not-free k (slotAt (s .slots) i .kind) (omega (arith, p, h .meets k i)))
 
   pub in-slots : (k : Chain) → All (InSlots (length (s .slots))) (chainOf k s)
   in-slots k = all-map (λ w p. met-in-range k (w .slot) p) (chainOf k s) (met [] (chainOf k s))
@@ -145,5 +116,5 @@ module _ (s : State) (h : Chained s) where
     length-append (s .ticking) (s .dated),
     no-more-than-slots (length (s .slots)) (s .ticking ++ s .dated)
         (all-append (InSlots (length (s .slots))) (s .ticking) (s .dated) (in-slots ByTicks) (in-slots ByDate))
-        (λ i. omega (arith, count-append (λ w. eqb (w .slot) i) (s .ticking) (s .dated), once-both i)),
+        (λ i. omega (arith, count-append (λ w. eqb (w .slot) i) (s .ticking) (s .dated), once-all i)),
   )

@@ -23,10 +23,10 @@ module _ (c : Clock) where
       → P (clockStep c)
   clock-cases P unset within next last =
       let into = clockAt c (c .second) (suc (c .ticksInto)) in
-      let over = cond (ltb (c .second) lastSecond) (clockAt c (suc (c .second)) 0) c in
+      let writtenOver = cond (ltb (c .second) lastSecond) (clockAt c (suc (c .second)) 0) c in
       let short = ltb (suc (c .ticksInto)) (c .perSecond) in
-      either P (c .isSet) (cond short into over) c
-      (λ e. either P short into over
+      either P (c .isSet) (cond short into writtenOver) c
+      (λ e. either P short into writtenOver
       (λ f. within e (ltb-true (suc (c .ticksInto)) (c .perSecond) f))
       (λ f.
       let full = ltb-false (suc (c .ticksInto)) (c .perSecond) f in

@@ -9,19 +9,19 @@ use mathlib.Core.List.{List, [], _∷_, map}
 use lib.ListN.{length, getD, length-map}
 use lib.Dec.{leb, ltb, eqb}
 use borrow.Author.Tests.{ltb-false, eqb-true, eqb-false, eq-eqb, le-leb, lt-ltb, not-false}
-use Rattle.model.specs.Lists.{count, every, allUp, All, Sorted}
-use Rattle.model.specs.Kinds.{Chain, ByTicks, ByDate, waitsIn, lastByTicks}
+use Rattle.model.specs.Lists.{count, every, All, Sorted}
+use Rattle.model.specs.Kinds.{Chain, ByTicks, ByDate, kindAt, linked, waitsIn, lastByTicks}
 use Rattle.model.specs.State.{Slot, Link, State, chainOf, slotAt}
 use Rattle.calendar.specs.Calendar.{allOf, lastSecond}
-use Rattle.model.specs.Words.{first, word, field, headWord, along, slotFrom}
-use Rattle.model.specs.Sound.{headerSound, unlinked, unstarted, slotSound, previousSound, chainSound, firstSound, ticksSound, rising, datesSound, sound}
+use Rattle.model.specs.Words.{first, word, headWord, along, slotFrom, slotCount, ticksPerSecond, clockSet, seconds, ticksInto, firstDated, kindOf, nameOf, intervalOf, waitOf, routineOf, dataOf, nextOf, previousOf}
+use Rattle.model.specs.Sound.{headerTests, headerSound, unlinked, unstarted, slotTests, slotSound, previousSound, chainTests, chainSound, firstSound, ticksSound, rising, datesSound, soundTests, sound}
 use Rattle.model.proofs.ListLaws.{cases, and-both, every-true, all-up, all-map, all-zip, all-mapped}
 use Rattle.model.proofs.WellFormed.{Shape, WellFormed, Holds}
-use Rattle.model.proofs.Chains.{InSlots, below-waiting, in-slots, fits}
-use Rattle.model.proofs.Each.{end, _&_, passed}
-use Rattle.model.proofs.Spelling.{headWords, holds-spelled, Loose, Parts, holds-parts, Linked, holds-linked}
+use Rattle.model.proofs.Chains.{InSlots, in-slots, fits}
+use Rattle.model.proofs.KindLaws.{in-none}
+use Rattle.model.proofs.EachPlace.{end, _&_, passed}
+use Rattle.model.proofs.StateWords.{headWords, holds-spelled, Loose, Parts, holds-parts, Linked, holds-linked}
 use Rattle.model.proofs.ReadBack.{count-slots, count-is, set-is, links-is, by-next}
-use Rattle.model.proofs.SoundHolds.{headerTests, slotTests, bullets}
 
 or-if : (a b : Bool) → (a ≡ false → b ≡ true) → (a || b) ≡ true
 or-if true b f = refl
@@ -29,24 +29,24 @@ or-if false b f = f refl
 
 -- ---- a slot
 
-slot-sound : (t : List ℕ) (i : ℕ) → Shape (slotFrom t i) → (field t 0 i ≤ 3 → Loose t i) → slotSound t i ≡ true
+slot-sound : (t : List ℕ) (i : ℕ) → Shape (slotFrom t i) → (linked (kindOf t i) ≡ false → Loose t i) → slotSound t i ≡ true
 unfolding slotSound
 slot-sound t i h loose =
-    let kind = field t 0 i in
+    let kind = kindOf t i in
     passed (slotTests t i kind) (
     le-leb kind 5 (h .kinds)
-    & or-if (not (eqb kind 0)) (eqb (field t 1 i) 0) (λ e. eq-eqb (field t 1 i) 0 (h .nameless (eqb-true kind 0 (not-false (eqb kind 0) e))))
-    & or-if (eqb kind 0) (ltb 0 (field t 1 i)) (λ e. lt-ltb 0 (field t 1 i) (h .named (pos-of-ne-zero (eqb-false kind 0 e))))
+    & or-if (not (eqb kind 0)) (eqb (nameOf t i) 0) (λ e. eq-eqb (nameOf t i) 0 (h .nameless (eqb-true kind 0 (not-false (eqb kind 0) e))))
+    & or-if (eqb kind 0) (ltb 0 (nameOf t i)) (λ e. lt-ltb 0 (nameOf t i) (h .named (pos-of-ne-zero (eqb-false kind 0 e))))
     & or-if (ltb 1 kind) (unstarted t i) (λ e.
     let b = h .blank (ltb-false 1 kind e) in
-    passed (eqb (field t 2 i) 0 ∷ eqb (field t 4 i) 0 ∷ eqb (field t 5 i) 0 ∷ [])
-    (eq-eqb (field t 2 i) 0 (b .0) & eq-eqb (field t 4 i) 0 (b .1) & eq-eqb (field t 5 i) 0 (b .2) & end))
-    & or-if (ltb kind 2) (ltb 0 (field t 4 i)) (λ e. lt-ltb 0 (field t 4 i) (h .used (ltb-false kind 2 e)))
-    & cases (lastByTicks kind) (λ e. rw e (lt-ltb 0 (field t 2 i) (h .by-ticks e))) (λ e. rw e (eq-eqb (field t 2 i) 0 (h .by-date e)))
-    & or-if (ltb 3 kind) (unlinked t i) (λ e.
-    let z = loose (ltb-false 3 kind e) in
-    passed (eqb (field t 3 i) 0 ∷ eqb (field t 6 i) 0 ∷ eqb (field t 7 i) 0 ∷ [])
-    (eq-eqb (field t 3 i) 0 (z .wait) & eq-eqb (field t 6 i) 0 (z .next) & eq-eqb (field t 7 i) 0 (z .previous) & end))
+    passed (eqb (intervalOf t i) 0 ∷ eqb (routineOf t i) 0 ∷ eqb (dataOf t i) 0 ∷ [])
+    (eq-eqb (intervalOf t i) 0 (b .0) & eq-eqb (routineOf t i) 0 (b .1) & eq-eqb (dataOf t i) 0 (b .2) & end))
+    & or-if (ltb kind 2) (ltb 0 (routineOf t i)) (λ e. lt-ltb 0 (routineOf t i) (h .used (ltb-false kind 2 e)))
+    & cases (lastByTicks kind) (λ e. rw e (lt-ltb 0 (intervalOf t i) (h .by-ticks e))) (λ e. rw e (eq-eqb (intervalOf t i) 0 (h .by-date e)))
+    & or-if (linked kind) (unlinked t i) (λ e.
+    let z = loose e in
+    passed (eqb (waitOf t i) 0 ∷ eqb (nextOf t i) 0 ∷ eqb (previousOf t i) 0 ∷ [])
+    (eq-eqb (waitOf t i) 0 (z .wait) & eq-eqb (nextOf t i) 0 (z .next) & eq-eqb (previousOf t i) 0 (z .previous) & end))
     & end)
 
 -- ---- a chain
@@ -54,7 +54,7 @@ slot-sound t i h loose =
 linked-previous : (k : Chain) (t : List ℕ) (p b : ℕ) (c : List Link) → Linked k t p b c → previousSound t p (map (λ w. w .slot) c) ≡ true
 linked-previous k t p b [] h = refl
 linked-previous k t p b (w ∷ ws) h =
-    and-both (eqb (field t 7 (w .slot)) p) (previousSound t (w .slot) (map (λ x. x .slot) ws)) (eq-eqb (field t 7 (w .slot)) p (h .0 .previous))
+    and-both (eqb (previousOf t (w .slot)) p) (previousSound t (w .slot) (map (λ x. x .slot) ws)) (eq-eqb (previousOf t (w .slot)) p (h .0 .previous))
     (linked-previous k t (w .slot) (w .wait) ws (h .1))
 
 first-passes : (c : List Link) → All (λ w. 1 ≤ w .wait) c → firstSound c ≡ true
@@ -76,55 +76,55 @@ module _ (t : List ℕ) (s : State) (h : Holds t s) where
   unfolding chainSound
   chain-sound k =
       let c = chainOf k s in
-      let n = word t 0 in
+      let n = slotCount t in
       let i = word t (headWord k) in
-      let l = along (field t 6) n i in
-      let more = along (field t 6) (suc n) i in
+      let l = along (nextOf t) n i in
+      let more = along (nextOf t) (suc n) i in
       let fit : length c ≤ n = omega (arith, count-is t s h, fits s (h .chained) k) in
       let is : l ≡ map (λ w. w .slot) c = by-next t s h k n fit in
       let is′ : more ≡ map (λ w. w .slot) c = by-next t s h k (suc n) (omega arith) in
-      let meets : ℕ → Bool = λ j. eqb (count (λ x. eqb x j) l) (cond (waitsIn k (field t 0 j)) 1 0) in
-      passed (leb (length more) n ∷ every (λ j. leb j n) l ∷ allUp meets 1 n ∷ previousSound t 0 l ∷ []) (
+      let meets : ℕ → Bool = λ j. eqb (count (λ x. eqb x j) l) (cond (waitsIn k (kindOf t j)) 1 0) in
+      passed (chainTests k t) (
       le-leb (length more) n (omega (arith, ap length is′, length-map c (λ w. w .slot)))
       & (ap (every (λ j. leb j n)) is ∙ every-true (λ j. leb j n) (map (λ w. w .slot) c)
       (all-mapped (λ w. w .slot) (λ j. leb j n ≡ true) c
       (all-map (λ w p. le-leb (w .slot) n (omega (arith, p .1, count-is t s h))) c (in-slots s (h .chained) k))))
-      & all-up meets 1 n (λ j a b. eq-eqb (count (λ x. eqb x j) l) (cond (waitsIn k (field t 0 j)) 1 0)
+      & all-up meets 1 n (λ j a b. eq-eqb (count (λ x. eqb x j) l) (cond (waitsIn k (kindOf t j)) 1 0)
       (ap (count (λ x. eqb x j)) is ∙ count-slots j c ∙ h .chained .meets k j
       ∙ ap (λ (x : Slot). cond (waitsIn k (x .kind)) 1 0) (sym (parts .slots j a (omega (arith, count-is t s h))))))
       & (ap (previousSound t 0) is ∙ linked-previous k t 0 0 c (holds-linked t s h k))
       & end)
 
-  loose : (i : ℕ) → 0 < i → i ≤ length (s .slots) → field t 0 i ≤ 3 → Loose t i
+  loose : (i : ℕ) → 0 < i → i ≤ length (s .slots) → linked (kindOf t i) ≡ false → Loose t i
   loose i a b p = parts .loose i a b (λ k. h .chained .meets k i
-      ∙ ap (λ (x : Slot). cond (waitsIn k (x .kind)) 1 0) (sym (parts .slots i a b)) ∙ rw (below-waiting k (field t 0 i) (omega arith)))
+      ∙ ap (λ (x : Slot). cond (waitsIn k (x .kind)) 1 0) (sym (parts .slots i a b)) ∙ rw (in-none (kindAt (kindOf t i) .chain) k p))
 
   module _ (ok : WellFormed s) where
     header-sound : headerSound t ≡ true
     unfolding headerSound
     header-sound =
-        let per : word t 1 ≡ s .clock .perSecond = heads 1 (omega arith) in
-        let set : word t 2 ≡ cond (s .clock .isSet) 1 0 = heads 2 (omega arith) in
-        let second : word t 3 ≡ s .clock .second = heads 3 (omega arith) in
-        let into : word t 4 ≡ s .clock .ticksInto = heads 4 (omega arith) in
-        let dated : word t 6 ≡ first (s .dated) = heads 6 (omega arith) in
+        let per : ticksPerSecond t ≡ s .clock .perSecond = heads 1 (omega arith) in
+        let set : clockSet t ≡ cond (s .clock .isSet) 1 0 = heads 2 (omega arith) in
+        let second : seconds t ≡ s .clock .second = heads 3 (omega arith) in
+        let into : ticksInto t ≡ s .clock .ticksInto = heads 4 (omega arith) in
+        let dated : firstDated t ≡ first (s .dated) = heads 6 (omega arith) in
         let count = count-is t s h in
         passed (headerTests t) (
-        le-leb 1 (word t 0) (omega (arith, ok .some-slot))
-        & le-leb (word t 0) 255 (omega (arith, h .chained .few))
-        & le-leb (10 + 8 * word t 0) (length t) (omega (arith, h .long))
-        & le-leb 1 (word t 1) (omega (arith, ok .per-low))
-        & le-leb (word t 1) 1000 (omega (arith, ok .per-high))
-        & le-leb (word t 2) 1 (omega (arith, bit (s .clock .isSet)))
-        & le-leb (word t 3) lastSecond (omega (arith, ok .second-high))
-        & lt-ltb (word t 4) (word t 1) (omega (arith, ok .into))
+        le-leb 1 (slotCount t) (omega (arith, ok .some-slot))
+        & le-leb (slotCount t) 255 (omega (arith, h .chained .few))
+        & le-leb (10 + 8 * slotCount t) (length t) (omega (arith, h .long))
+        & le-leb 1 (ticksPerSecond t) (omega (arith, ok .per-low))
+        & le-leb (ticksPerSecond t) 1000 (omega (arith, ok .per-high))
+        & le-leb (clockSet t) 1 (omega (arith, bit (s .clock .isSet)))
+        & le-leb (seconds t) lastSecond (omega (arith, ok .second-high))
+        & lt-ltb (ticksInto t) (ticksPerSecond t) (omega (arith, ok .into))
         & eq-eqb (word t 7) 0 (heads 7 (omega arith))
         & eq-eqb (word t 8) 0 (heads 8 (omega arith))
         & eq-eqb (word t 9) 0 (heads 9 (omega arith))
-        & or-if (eqb (word t 2) 1) (allOf (eqb (word t 3) 0 ∷ eqb (word t 4) 0 ∷ eqb (word t 6) 0 ∷ [])) (λ e.
+        & or-if (eqb (clockSet t) 1) (allOf (eqb (seconds t) 0 ∷ eqb (ticksInto t) 0 ∷ eqb (firstDated t) 0 ∷ [])) (λ e.
         let z = ok .unset (sym (set-is t s h) ∙ e) in
-        passed (eqb (word t 3) 0 ∷ eqb (word t 4) 0 ∷ eqb (word t 6) 0 ∷ [])
-        (eq-eqb (word t 3) 0 (second ∙ z .0) & eq-eqb (word t 4) 0 (into ∙ z .1) & eq-eqb (word t 6) 0 (dated ∙ ap first (z .2)) & end))
+        passed (eqb (seconds t) 0 ∷ eqb (ticksInto t) 0 ∷ eqb (firstDated t) 0 ∷ [])
+        (eq-eqb (seconds t) 0 (second ∙ z .0) & eq-eqb (ticksInto t) 0 (into ∙ z .1) & eq-eqb (firstDated t) 0 (dated ∙ ap first (z .2)) & end))
         & end)
       where
         bit : (b : Bool) → cond b 1 0 ≤ 1
@@ -135,31 +135,31 @@ module _ (t : List ℕ) (s : State) (h : Holds t s) where
     unfolding ticksSound
     ticks-sound =
         let c = s .ticking in
-        let low : Link → Bool = λ w. leb (w .wait) (field t 2 (w .slot)) in
+        let low : Link → Bool = λ w. leb (w .wait) (intervalOf t (w .slot)) in
         ap (λ (l : List Link). firstSound l && every low l) (links-is t s h ByTicks)
         ∙ and-both (firstSound c) (every low c) (first-passes c (ok .ticks))
         (every-true low c (all-map (λ w p.
         let is = ap (λ (x : Slot). x .interval) (parts .slots (w .slot) (p .0 .0) (p .0 .1)) in
-        le-leb (w .wait) (field t 2 (w .slot)) (omega (arith, is, p .1))) c
+        le-leb (w .wait) (intervalOf t (w .slot)) (omega (arith, is, p .1))) c
         (all-zip (InSlots (length (s .slots))) (λ w. w .wait ≤ slotAt (s .slots) (w .slot) .interval) c
-        (in-slots s (h .chained) ByTicks) (h .chained .bounded))))
+        (in-slots s (h .chained) ByTicks) (h .chained .within ByTicks))))
 
     dates-sound : datesSound t ≡ true
     unfolding datesSound
     dates-sound =
         let c = s .dated in
         let low : Link → Bool = λ w. leb (w .wait) lastSecond in
-        let second : word t 3 ≡ s .clock .second = heads 3 (omega arith) in
-        ap (λ (l : List Link). rising (suc (word t 3)) l && every low l) (links-is t s h ByDate)
-        ∙ and-both (rising (suc (word t 3)) c) (every low c)
-        (rises (suc (word t 3)) c (all-map (λ w p. omega (arith, p .0)) c (ok .dates)) (h .chained .rises ByDate))
+        let second : seconds t ≡ s .clock .second = heads 3 (omega arith) in
+        ap (λ (l : List Link). rising (suc (seconds t)) l && every low l) (links-is t s h ByDate)
+        ∙ and-both (rising (suc (seconds t)) c) (every low c)
+        (rises (suc (seconds t)) c (all-map (λ w p. omega (arith, p .0)) c (ok .dates)) (h .chained .rises ByDate))
         (every-true low c (all-map (λ w p. le-leb (w .wait) lastSecond (p .1)) c (ok .dates)))
 
     pub well-formed-sound : sound t ≡ true
     unfolding sound
-    well-formed-sound = passed (bullets t) (
+    well-formed-sound = passed (soundTests t) (
         header-sound
-        & all-up (slotSound t) 1 (word t 0) (λ i a b.
+        & all-up (slotSound t) 1 (slotCount t) (λ i a b.
         let n : i ≤ length (s .slots) = omega (arith, count-is t s h) in
         slot-sound t i (subst Shape (sym (parts .slots i a n)) (ok .shape i)) (loose i a n))
         & chain-sound ByTicks

@@ -28,7 +28,7 @@ module _ {A : Type 0} where
   sorted-orderOn key acc [] h = h
   sorted-orderOn key acc (x ∷ xs) h = sorted-orderOn key (place key x acc) xs (sorted-place key x acc h)
 
-  sorted-order : (key : A → ℕ) (l : List A) → Sorted key (order key l)
+  pub sorted-order : (key : A → ℕ) (l : List A) → Sorted key (order key l)
   sorted-order key l = sorted-orderOn key [] l tt
 
   keep-orderOn : (key : A → ℕ) (p : A → Bool) (acc l : List A) → Sorted key acc
@@ -45,7 +45,7 @@ module _ {A : Type 0} where
   orderOn-append key acc [] m = refl
   orderOn-append key acc (y ∷ ys) m = orderOn-append key (place key y acc) ys m
 
-  orderOn-flat : (key : A → ℕ) (k : ℕ) (acc l : List A) → All (λ y. key y ≡ k) acc → All (λ y. key y ≡ k) l → orderOn key acc l ≡ acc ++ l
+  pub orderOn-flat : (key : A → ℕ) (k : ℕ) (acc l : List A) → All (λ y. key y ≡ k) acc → All (λ y. key y ≡ k) l → orderOn key acc l ≡ acc ++ l
   orderOn-flat key k acc [] h g = sym (append-nil acc)
   orderOn-flat key k acc (x ∷ xs) h g =
       let flat : All (λ y. key y ≤ key x) acc = all-map (λ y e. omega (arith, e, g .0)) acc h in
@@ -67,3 +67,15 @@ module _ {A B : Type 0} where
   map-orderOn f key key′ h acc (x ∷ xs) =
       map-orderOn f key key′ h (place key x acc) xs
       ∙ rw (map-place f key key′ x acc (all (λ y. ap₂ leb (h y) (h x)) acc))
+
+  -- the same where the map keeps the order among elements of a sort
+  pub map-order : (f : A → B) (key : A → ℕ) (key′ : B → ℕ) (P : A → Type 0)
+      → ((x y : A) → P x → P y → leb (key′ (f y)) (key′ (f x)) ≡ leb (key y) (key x)) → (l : List A) → All P l
+      → map f (order key l) ≡ order key′ (map f l)
+  map-order f key key′ P h l all-l = on [] l tt all-l
+    where
+      on : (acc l : List A) → All P acc → All P l → map f (orderOn key acc l) ≡ orderOn key′ (map f acc) (map f l)
+      on acc [] p q = refl
+      on acc (x ∷ xs) p q =
+          on (place key x acc) xs (all-place P key x acc (q .0) p) (q .1)
+          ∙ rw (map-place f key key′ x acc (all-map (λ y r. h x y (q .0) r) acc p))

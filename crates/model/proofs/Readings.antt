@@ -3,27 +3,29 @@
 use mathlib.Core.Path.{_≡_, refl, sym, ap, ap₂, _∙_, subst}
 use Prim.Native.Nat.{ℕ, suc, _≤_, _<_}
 use native.Mathlib.Omega.{arith}
-use mathlib.Core.Bool.{Bool, true, false, cond, not, _&&_, and-false}
+use mathlib.Core.Bool.{Bool, true, false, not, _&&_, _||_}
 use mathlib.Core.Option.{Option, none, some}
-use mathlib.Core.List.{List, [], _∷_, _++_, map, reverse, reverseAux, append-assoc, List·Memᴰ, List·Memᴰ·head, List·Memᴰ·tail, Memᴰ·append-left, Memᴰ·append-right, Memᴰ·map, Memᴰ·cast, head-eq-of-cons-eq, tail-eq-of-cons-eq, nil≢cons, cons≢nil, reverseAux-append}
+use mathlib.Core.List.{List, [], _∷_, _++_, map, List·Memᴰ, List·Memᴰ·head, List·Memᴰ·tail, Memᴰ·append-left, Memᴰ·append-right, Memᴰ·map, Memᴰ·cast, head-eq-of-cons-eq, tail-eq-of-cons-eq, nil≢cons, cons≢nil}
 use lib.Dec.{leb, eqb}
-use borrow.Author.Tests.{leb-true, leb-false, le-leb, lt-leb, eqb-true, eqb-false, eq-eqb, ne-eqb}
+use borrow.Author.Tests.{leb-true, leb-false, eqb-true, eqb-false, eq-eqb, ne-eqb}
 use Rattle.calendar.specs.declared.WallTime.{WallTime}
 use Rattle.model.specs.Lists.{goesBehind, keep, any, place, All, Sorted, InOrder}
-use Rattle.model.specs.Calls.{Call, layOut, tick, setClock}
-use Rattle.model.specs.Kinds.{Chain, ByTicks, ByDate}
+use Rattle.model.specs.Calls.{Call, layOut, tick, setClock, lentTo}
+use Rattle.model.specs.Kinds.{Chain, ByTicks, ByDate, After, When, chainFor, sameChain}
 use Rattle.model.specs.State.{Fired}
-use Rattle.model.specs.History.{afterTicks, Start, Event, changes, oneTick, eventOf, clockSetTo, startIn, isTick, ticks, Placed, ends, placed, startsFrom, starts, wasDue, wasEnded, waits, also, fires, dueAt, isFor, inChain, entry, remaining, waiting}
+use Rattle.model.specs.History.{Start, startOf, Event, changes, oneTick, eventOf, clockSetTo, startIn, isTick, ticks, past, movesClock, Placed, withEvent, placed, starts, ends, wasEnded, isDue, wasDueIn, wasDue, waits, fires, inChain, ticksLeftOrDate, entry}
 use Rattle.model.specs.Directives.{effect}
-use Rattle.model.specs.Words.{over, links, read}
+use Rattle.model.specs.Words.{writtenOver, links, read}
 use Rattle.model.specs.Sound.{sound}
-use Rattle.model.specs.Outcome.{Outcome, statusOn, written, outcome}
-use Rattle.model.specs.Demand.{after, eventsAfter}
-use Rattle.model.proofs.ListLaws.{cases, clash, all-map, all-append, all-keep, all-passed, all-zip, keep-none, count-snoc}
+use Rattle.model.specs.Outcome.{Outcome, statusOn, outcome}
+use Rattle.model.specs.Demand.{after, Begins, eventsAfter}
+use Rattle.model.proofs.ListLaws.{cases, clash, all-map, all-append, all-mapped, all-keep, all-passed, all-zip, keep-none}
 use Rattle.model.proofs.Order.{order, orderOn, all-orderOn, order-in-order}
 use Rattle.model.proofs.ReadBack.{links-is}
+use Rattle.model.proofs.HistoryLaws.{fewer}
 use Rattle.model.proofs.OutcomeLaws.{outcome-accepted, outcome-status}
-use Rattle.model.proofs.Demand3.{effect-holds, demand3}
+use Rattle.model.proofs.CallTables.{effect-holds}
+use Rattle.model.proofs.Demand3.{demand3}
 
 -- ---- 1. The order leaves one list only.
 
@@ -72,23 +74,25 @@ module _ {A : Type 0} (key : A → ℕ) where
 pub record From (es : List Event) (g : Placed) : Type 0 where
   pub earlier : List Event
   pub event : Event
-  pub split : es ≡ earlier ++ (event ∷ g .after)
+  pub split : es ≡ g .after ++ (event ∷ earlier)
   pub is-start : startIn event ≡ some (g .begun)
-  pub upto : g .before ≡ event ∷ reverseAux earlier []
-
-from : (p l : List Event) → All (From (p ++ l)) (startsFrom (reverseAux p []) l)
-from p [] = tt
-from p (x ∷ xs) =
-    all-append (From (p ++ (x ∷ xs))) (placed (startIn x) (x ∷ reverseAux p []) xs) (startsFrom (x ∷ reverseAux p []) xs) (go (startIn x) refl)
-    (subst (λ (c : List Event). All (From c) (startsFrom (x ∷ reverseAux p []) xs)) (append-assoc p (x ∷ []) xs)
-    (subst (λ (b : List Event). All (From (p ++ (x ∷ []) ++ xs)) (startsFrom b xs)) (reverseAux-append p (x ∷ []) []) (from (p ++ (x ∷ [])) xs)))
-  where
-    go : (o : Option Start) → startIn x ≡ o → All (From (p ++ (x ∷ xs))) (placed o (x ∷ reverseAux p []) xs)
-    go none e = tt
-    go (some s) e = (record { earlier = p; event = x; split = refl; is-start = e; upto = refl }, tt)
+  pub upto : g .before ≡ event ∷ earlier
 
 pub starts-from : (es : List Event) → All (From es) (starts es)
-starts-from es = from [] es
+starts-from [] = tt
+starts-from (e ∷ es) =
+    all-append (From (e ∷ es)) (map (withEvent e) (starts es)) (placed (startIn e) (e ∷ es))
+    (all-mapped (withEvent e) (From (e ∷ es)) (starts es) (all-map (λ g p. record {
+      earlier = p .earlier;
+      event = p .event;
+      split = ap {B = List Event} (λ l. e ∷ l) (p .split);
+      is-start = p .is-start;
+      upto = p .upto;
+    }) (starts es) (starts-from es))) (go (startIn e) refl)
+  where
+    go : (o : Option Start) → startIn e ≡ o → All (From (e ∷ es)) (placed o (e ∷ es))
+    go none f = tt
+    go (some s) f = (record { earlier = es; event = e; split = refl; is-start = f; upto = refl }, tt)
 
 -- ---- 3. Nothing is listed but what was started, is due there and was not ended.
 
@@ -96,35 +100,23 @@ pub record Listed (es : List Event) (e : Event) (g : Placed) : Type 0 where
   pub place : From es g
   pub not-ended : wasEnded g ≡ false
   pub not-due-before : wasDue g ≡ false
-  pub due : wasDue (also e g) ≡ true
+  pub due : isDue e g ≡ true
 
 listed-of : (es : List Event) (e : Event) (g : Placed) → From es g → fires e g ≡ true → Listed es e g
-listed-of es e g p f = record {
-  place = p;
-  not-ended = ended (wasEnded g) (wasDue g) (wasDue (also e g)) f;
-  not-due-before = before (wasEnded g) (wasDue g) (wasDue (also e g)) f;
-  due = now (wasEnded g) (wasDue g) (wasDue (also e g)) f;
-}
+listed-of es e g p f =
+    let all-three = three (wasEnded g) (wasDue g) (isDue e g) f in
+    record { place = p; not-ended = all-three .0; not-due-before = all-three .1; due = all-three .2 }
   where
-    ended : (a b c : Bool) → ((not a && not b) && c) ≡ true → a ≡ false
-    ended true b c f = clash (sym f)
-    ended false b c f = refl
+    three : (a b c : Bool) → ((not a && not b) && c) ≡ true → (a ≡ false) × (b ≡ false) × (c ≡ true)
+    three true b c f = clash (sym f)
+    three false true c f = clash (sym f)
+    three false false c f = (refl, refl, f)
 
-    before : (a b c : Bool) → ((not a && not b) && c) ≡ true → b ≡ false
-    before true b c f = clash (sym f)
-    before false true c f = clash (sym f)
-    before false false c f = refl
-
-    now : (a b c : Bool) → ((not a && not b) && c) ≡ true → c ≡ true
-    now true b c f = clash (sym f)
-    now false true c f = clash (sym f)
-    now false false c f = f
-
-pub only-due : (k : Chain) (es : List Event) (e : Event) (l : List Placed) → InOrder dueAt (keep (inChain k) (keep (fires e) (starts es))) l
+pub only-due : (k : Chain) (es : List Event) (e : Event) (l : List Placed) → InOrder ticksLeftOrDate (keep (inChain k) (keep (fires e) (starts es))) l
     → All (Listed es e) l
 only-due k es e l o =
-    subst (All (Listed es e)) (one-order dueAt (keep (inChain k) S) (order dueAt (keep (inChain k) S)) l (order-in-order dueAt (keep (inChain k) S)) o)
-    (all-orderOn (Listed es e) dueAt [] (keep (inChain k) S) tt (all-keep (Listed es e) (inChain k) S
+    subst (All (Listed es e)) (one-order ticksLeftOrDate (keep (inChain k) S) (order ticksLeftOrDate (keep (inChain k) S)) l (order-in-order ticksLeftOrDate (keep (inChain k) S)) o)
+    (all-orderOn (Listed es e) ticksLeftOrDate [] (keep (inChain k) S) tt (all-keep (Listed es e) (inChain k) S
     (all-map (λ g p. listed-of es e g (p .0) (p .1)) S
     (all-zip (From es) (λ g. fires e g ≡ true) S (all-keep (From es) (fires e) (starts es) (starts-from es)) (all-passed (fires e) (starts es))))))
   where
@@ -135,48 +127,61 @@ only-due k es e l o =
 
 -- the start s after the events P, with Q after it
 abbrev pub startAt : List Event → ℕ → Start → List Event → Placed
-startAt P id s Q = record { begun = s; before = changes id (some s) ∷ reverseAux P []; after = Q }
+startAt P id s Q = record { begun = s; before = changes id (some s) ∷ P; after = Q }
 
 abbrev pub forTicks : ℕ → ℕ → ℕ → ℕ → Start
-forTicks timer n r u = record { id = timer; due = afterTicks n; routine = r; userData = u }
+forTicks timer n r u = startOf timer After n r u
 
-module _ (P Q : List Event) (id timer n r u : ℕ) where
-  pub at-nth-tick : any (ends timer) Q ≡ false → n ≡ suc (ticks Q)
-      → fires oneTick (startAt P id (forTicks timer n r u) Q) ≡ true
-  at-nth-tick e d =
-      ap₂ (λ (a b : Bool). (not a && not b) && leb n (ticks (Q ++ (oneTick ∷ [])))) e (lt-leb n (ticks Q) (omega arith))
-      ∙ le-leb n (ticks (Q ++ (oneTick ∷ []))) (omega (arith, count-snoc isTick Q oneTick))
+module _ (P Q : List Event) (id timer n r u : ℕ) (some-ticks : 0 < n) where
+  -- it was not due while fewer than n ticks had passed
+  not-yet : (before after : List Event) → ticks after < n → wasDueIn (forTicks timer n r u) before after ≡ false
+  not-yet before [] p = refl
+  not-yet before (e ∷ after) p =
+      cases (isTick e)
+      (λ t.
+      let q : suc (ticks after) < n = rw t at p in
+      rw (t, ne-eqb (suc (ticks after)) n (λ z. omega arith)) (not-yet before after (omega arith)))
+      (λ t. rw t (not-yet before after (rw t at p)))
 
-  -- in an event after fewer ticks, or that is no tick, it does not
-  pub not-before : (e : Event) → suc (ticks Q) < n → fires e (startAt P id (forTicks timer n r u) Q) ≡ false
-  not-before e h =
-      ap (λ (b : Bool). waits (startAt P id (forTicks timer n r u) Q) && b)
-      (lt-leb n (ticks (Q ++ (e ∷ []))) (omega (arith, count-snoc isTick Q e, few (isTick e))))
-      ∙ and-false (waits (startAt P id (forTicks timer n r u) Q))
+  pub at-nth-tick : (e : Event) → fires e (startAt P id (forTicks timer n r u) Q)
+      ≡ (not (any (ends timer) Q) && (isTick e && eqb (suc (ticks Q)) n))
+  at-nth-tick e =
+      cases (leb n (ticks Q))
+      (λ f.
+      let past : n ≤ ticks Q = leb-true n (ticks Q) f in
+      let was : wasDueIn (forTicks timer n r u) (changes id (some (forTicks timer n r u)) ∷ P) Q ≡ true =
+      cases (wasDueIn (forTicks timer n r u) (changes id (some (forTicks timer n r u)) ∷ P) Q) (λ g. g)
+      (λ g. absurd (omega (arith, fewer (forTicks timer n r u) (changes id (some (forTicks timer n r u)) ∷ P) Q (λ x l. refl) some-ticks g))) in
+      rw (was, ne-eqb (suc (ticks Q)) n (λ z. omega arith)) (never (any (ends timer) Q) (isTick e)))
+      (λ f. rw (not-yet (changes id (some (forTicks timer n r u)) ∷ P) Q (leb-false n (ticks Q) f)) (now (any (ends timer) Q) (isTick e && eqb (suc (ticks Q)) n)))
     where
-      few : (b : Bool) → cond b 1 0 ≤ 1
-      few true = omega arith
-      few false = omega arith
+      never : (a b : Bool) → ((not a && false) && (b && false)) ≡ (not a && (b && false))
+      never true b = refl
+      never false true = refl
+      never false false = refl
 
-  pub only-ticks : (e : Event) → isTick e ≡ false → fires e (startAt P id (forTicks timer n r u) Q) ≡ false
-  only-ticks e quiet =
-      ap (λ (m : ℕ). (not (any (ends timer) Q) && not (leb n (ticks Q))) && leb n m) same ∙ never (not (any (ends timer) Q)) (leb n (ticks Q))
-    where
-      same : ticks (Q ++ (e ∷ [])) ≡ ticks Q
-      same = count-snoc isTick Q e ∙ rw quiet (omega arith)
+      now : (a b : Bool) → ((not a && true) && b) ≡ (not a && b)
+      now true b = refl
+      now false b = refl
 
-      never : (a b : Bool) → ((a && not b) && b) ≡ false
-      never true true = refl
-      never true false = refl
-      never false b = refl
+-- A start for a date fires in just the tick or set clock that leaves the clock at or past it, where none did so before and it was not ended.
+abbrev pub forDate : ℕ → ℕ → ℕ → ℕ → Start
+forDate timer d r u = startOf timer When d r u
 
-  pub not-after : (e : Event) → n ≤ ticks Q → fires e (startAt P id (forTicks timer n r u) Q) ≡ false
-  not-after e h =
-      ap (λ (b : Bool). (not (any (ends timer) Q) && not b) && leb n (ticks (Q ++ (e ∷ [])))) (le-leb n (ticks Q) h) ∙ none (not (any (ends timer) Q))
-    where
-      none : (a : Bool) → ((a && false) && leb n (ticks (Q ++ (e ∷ [])))) ≡ false
-      none true = refl
-      none false = refl
+-- some tick or set clock of Q, which came after P, left the clock at or past the date
+abbrev pub reached : ℕ → List Event → List Event → Bool
+reached d P [] = false
+reached d P (e ∷ Q) = (movesClock e && past d (e ∷ Q ++ P)) || reached d P Q
+
+pub at-date : (P Q : List Event) (id timer d r u : ℕ) (e : Event) → let g = startAt P id (forDate timer d r u) Q in
+    fires e g ≡ ((not (any (ends timer) Q) && not (reached d (g .before) Q)) && (movesClock e && past d (e ∷ Q ++ g .before)))
+at-date P Q id timer d r u e =
+    let B = changes id (some (forDate timer d r u)) ∷ P in
+    ap (λ (b : Bool). (not (any (ends timer) Q) && not b) && (movesClock e && past d (e ∷ Q ++ B))) (was B Q)
+  where
+    was : (B Q : List Event) → wasDueIn (forDate timer d r u) B Q ≡ reached d B Q
+    was B [] = refl
+    was B (x ∷ Q) = ap (λ (b : Bool). (movesClock x && past d (x ∷ Q ++ B)) || b) (was B Q)
 
 -- ---- 5. What fires is listed.
 
@@ -202,29 +207,28 @@ mem-order : {A : Type 0} (key : A → ℕ) {z : A} (acc l : List A) → List·Me
 mem-order key acc (x ∷ xs) (List·Memᴰ·head q) = mem-acc key (place key x acc) xs (Memᴰ·cast q (mem-place key x acc))
 mem-order key acc (x ∷ xs) (List·Memᴰ·tail m) = mem-order key (place key x acc) xs m
 
-pub start-placed : (b P Q : List Event) (id : ℕ) (s : Start)
-    → List·Memᴰ (record { begun = s; before = changes id (some s) ∷ reverseAux P b; after = Q }) (startsFrom b (P ++ (changes id (some s) ∷ Q)))
-start-placed b [] Q id s = List·Memᴰ·head refl
-start-placed b (x ∷ xs) Q id s = Memᴰ·append-right (placed (startIn x) (x ∷ b) (xs ++ (changes id (some s) ∷ Q))) (start-placed (x ∷ b) xs Q id s)
+pub start-placed : (P Q : List Event) (id : ℕ) (s : Start) → List·Memᴰ (startAt P id s Q) (starts (Q ++ (changes id (some s) ∷ P)))
+start-placed P [] id s = Memᴰ·append-right (map (withEvent (changes id (some s))) (starts P)) (List·Memᴰ·head refl)
+start-placed P (x ∷ Q) id s =
+    Memᴰ·append-left (placed (startIn x) (x ∷ Q ++ (changes id (some s) ∷ P))) (Memᴰ·map (withEvent x) (start-placed P Q id s))
 
 -- a start that fires in e is in the list that demand 3 asks for
-pub fires-listed : (k : Chain) (P Q : List Event) (id : ℕ) (s : Start) (e : Event) (l : List Placed) → isFor k (s .due) ≡ true
-    → fires e (startAt P id s Q) ≡ true → InOrder dueAt (keep (inChain k) (keep (fires e) (starts (P ++ (changes id (some s) ∷ Q))))) l
+pub fires-listed : (k : Chain) (P Q : List Event) (id : ℕ) (s : Start) (e : Event) (l : List Placed) → sameChain k (chainFor (s .mode)) ≡ true
+    → fires e (startAt P id s Q) ≡ true → InOrder ticksLeftOrDate (keep (inChain k) (keep (fires e) (starts (Q ++ (changes id (some s) ∷ P))))) l
     → List·Memᴰ (startAt P id s Q) l
 fires-listed k P Q id s e l here f o =
     subst (λ (m : List Placed). List·Memᴰ (startAt P id s Q) m)
-    (one-order dueAt (keep (inChain k) S) (order dueAt (keep (inChain k) S)) l (order-in-order dueAt (keep (inChain k) S)) o)
-    (mem-order dueAt [] (keep (inChain k) S) (mem-keep (inChain k) {x = startAt P id s Q} S here
-    (mem-keep (fires e) {x = startAt P id s Q} (starts (P ++ (changes id (some s) ∷ Q))) f (start-placed [] P Q id s))))
+    (one-order ticksLeftOrDate (keep (inChain k) S) (order ticksLeftOrDate (keep (inChain k) S)) l (order-in-order ticksLeftOrDate (keep (inChain k) S)) o)
+    (mem-order ticksLeftOrDate [] (keep (inChain k) S) (mem-keep (inChain k) {x = startAt P id s Q} S here
+    (mem-keep (fires e) {x = startAt P id s Q} (starts (Q ++ (changes id (some s) ∷ P))) f (start-placed P Q id s))))
   where
     S : List Placed
-    S = keep (fires e) (starts (P ++ (changes id (some s) ∷ Q)))
+    S = keep (fires e) (starts (Q ++ (changes id (some s) ∷ P)))
 
--- ---- 6. A set clock changes no interval timer's due tick, nor its ticks left.
+-- ---- 6. A set clock changes no start's ticks left.
 
-pub clock-moves-no-tick : (d n : ℕ) (g : Placed) → g .begun .due ≡ afterTicks n
-    → (dueAt (also (clockSetTo d) g) ≡ dueAt g) × (waiting (also (clockSetTo d) g) .wait ≡ waiting g .wait)
-clock-moves-no-tick d n g e = (refl, ap (remaining (g .begun .due)) (count-snoc isTick (g .after) (clockSetTo d) ∙ omega arith))
+pub clock-moves-no-tick : (d : ℕ) (g : Placed) → ticksLeftOrDate (withEvent (clockSetTo d) g) ≡ ticksLeftOrDate g
+clock-moves-no-tick d g = refl
 
 -- ---- 7. On the words: what an accepted tick writes to its list.
 
@@ -232,26 +236,50 @@ clock-moves-no-tick d n g e = (refl, ap (remaining (g .begun .due)) (count-snoc 
 -- begins with entries among which is the start's: its id, routine and data.
 pub tick-lists : (w : List ℕ) (n t : ℕ) → outcome w (layOut n t) .status ≡ 0 → (xs : List Call) (list : List ℕ) (P Q : List Event) (id timer k r u : ℕ)
     → outcome (after w (layOut n t ∷ xs)) (tick list) .status ≡ 0
-    → eventsAfter w (layOut n t ∷ xs) ≡ P ++ (changes id (some (forTicks timer k r u)) ∷ Q) → any (ends timer) Q ≡ false → k ≡ suc (ticks Q)
-    → (fired : List Fired) × (outcome (after w (layOut n t ∷ xs)) (tick list) .list ≡ written fired list)
+    → eventsAfter w (layOut n t ∷ xs) ≡ Q ++ (changes id (some (forTicks timer k r u)) ∷ P) → any (ends timer) Q ≡ false → suc (ticks Q) ≡ k
+    → (fired : List Fired) × Begins (outcome (after w (layOut n t ∷ xs)) (tick list) .list) list fired
     × List·Memᴰ (record { id = timer; routine = r; userData = u }) fired
 tick-lists w n t ok xs list P Q id timer k r u accepted is quiet nth =
     let a = demand3 w n t ok (xs ++ (tick list ∷ [])) .answers xs [] (tick list) refl .lists accepted in
-    let s = forTicks timer k r u in (
+    let s = forTicks timer k r u in
+    let now : fires oneTick (startAt P id s Q) ≡ true =
+    at-nth-tick P Q id timer k r u (omega arith) oneTick ∙ ap₂ (λ (a b : Bool). not a && b) quiet (eq-eqb (suc (ticks Q)) k nth) in (
       map entry (a .ticking ++ a .dated),
       a .entries,
-      Memᴰ·map entry (Memᴰ·append-left (a .dated) (fires-listed ByTicks P Q id s oneTick (a .ticking) refl (at-nth-tick P Q id timer k r u quiet nth)
-          (subst (λ (es : List Event). InOrder dueAt (keep (inChain ByTicks) (keep (fires oneTick) (starts es))) (a .ticking)) is (a .ticking-order)))),
+      Memᴰ·map entry (Memᴰ·append-left (a .dated) (fires-listed ByTicks P Q id s oneTick (a .ticking) refl now
+          (subst (λ (es : List Event). InOrder ticksLeftOrDate (keep (inChain ByTicks) (keep (fires oneTick) (starts es))) (a .ticking)) is (a .ticking-order)))),
+    )
+
+-- An accepted tick or set clock that leaves the clock at or past a date lists a start for that date, where none before it did so and nothing
+-- ended it.
+pub date-lists : (w : List ℕ) (n t : ℕ) → outcome w (layOut n t) .status ≡ 0 → (xs : List Call) (c : Call) (P Q : List Event) (id timer d r u : ℕ)
+    → outcome (after w (layOut n t ∷ xs)) c .status ≡ 0 → let es = eventsAfter w (layOut n t ∷ xs) in
+    let B = changes id (some (forDate timer d r u)) ∷ P in
+    es ≡ Q ++ B → any (ends timer) Q ≡ false → reached d B Q ≡ false → movesClock (eventOf es c) ≡ true → past d (eventOf es c ∷ Q ++ B) ≡ true
+    → (fired : List Fired) × Begins (outcome (after w (layOut n t ∷ xs)) c .list) (lentTo c) fired
+    × List·Memᴰ (record { id = timer; routine = r; userData = u }) fired
+date-lists w n t ok xs c P Q id timer d r u accepted is quiet before moving there =
+    let es = eventsAfter w (layOut n t ∷ xs) in
+    let e = eventOf es c in
+    let a = demand3 w n t ok (xs ++ (c ∷ [])) .answers xs [] c refl .lists accepted in
+    let s = forDate timer d r u in
+    let now : fires e (startAt P id s Q) ≡ true =
+    at-date P Q id timer d r u e ∙ ap₂ (λ (x y : Bool). (not x && not y) && (movesClock e && past d (e ∷ Q ++ (changes id (some s) ∷ P)))) quiet before
+    ∙ ap₂ (λ (x y : Bool). x && y) moving there in (
+      map entry (a .ticking ++ a .dated),
+      a .entries,
+      Memᴰ·map entry (Memᴰ·append-right (a .ticking) (fires-listed ByDate P Q id s e (a .dated) refl now
+          (subst (λ (l : List Event). InOrder ticksLeftOrDate (keep (inChain ByDate) (keep (fires e) (starts l))) (a .dated)) is (a .dated-order)))),
     )
 
 -- Each entry that any accepted call writes is that of a start that is due there, was not due before and was not ended.
 pub lists-only : (w : List ℕ) (n t : ℕ) → outcome w (layOut n t) .status ≡ 0 → (xs : List Call) (c : Call)
     → outcome (after w (layOut n t ∷ xs)) c .status ≡ 0 → (l : List Placed)
-    × (outcome (after w (layOut n t ∷ xs)) c .list ≡ written (map entry l) (effect (read (after w (layOut n t ∷ xs))) c .lent))
-    × All (Listed (eventsAfter w (layOut n t ∷ xs)) (eventOf (reverse (eventsAfter w (layOut n t ∷ xs))) c)) l
+    × Begins (outcome (after w (layOut n t ∷ xs)) c .list) (lentTo c) (map entry l)
+    × All (Listed (eventsAfter w (layOut n t ∷ xs)) (eventOf (eventsAfter w (layOut n t ∷ xs)) c)) l
 lists-only w n t ok xs c accepted =
     let es = eventsAfter w (layOut n t ∷ xs) in
-    let e = eventOf (reverse es) c in
+    let e = eventOf es c in
     let a = demand3 w n t ok (xs ++ (c ∷ [])) .answers xs [] c refl .lists accepted in (
       a .ticking ++ a .dated,
       a .entries,
@@ -266,4 +294,4 @@ set-clock-keeps-ticks t ok w list e =
     let z : statusOn t (setClock w list) ≡ 0 = sym (outcome-status t (setClock w list)) ∙ e in
     let s = effect (read t) (setClock w list) .state in
     ap (λ (o : Outcome). links ByTicks (o .table)) (outcome-accepted t (setClock w list) z)
-    ∙ links-is (over s t) s (effect-holds t ok (setClock w list) z) ByTicks
+    ∙ links-is (writtenOver s t) s (effect-holds t ok (setClock w list) z) ByTicks

@@ -1,19 +1,19 @@
--- The words of one slot, after each way in which a call writes it. A timer that stops keeps its words but the kind, and that from 4 to 2 or
--- from 5 to 3, which no clause of `Shape` tells apart. Assumes nothing.
+-- The words of one slot, after each way in which a call writes it. A timer that stops or fires keeps its words but the kind, and that for one
+-- which no clause of `Shape` tells apart. Assumes nothing.
 use mathlib.Core.Path.{_≡_, refl, sym, ap, _∙_}
 use Prim.Native.Nat.{ℕ, _≤_, _<_, zero-le}
 use native.Mathlib.Omega.{arith}
 use mathlib.Core.Bool.{true, false}
-use mathlib.Core.List.{List}
-use lib.Dec.{eqb}
-use borrow.Author.Tests.{eqb-true}
-use Rattle.model.specs.Kinds.{Chain, ByTicks, ByDate, waitingKind, waitsIn, lastByTicks, idleOf}
-use Rattle.model.specs.State.{Slot, Link, free, slotAt}
-use Rattle.model.specs.Directives.{unused, waitingAs, idled, idleAll}
-use Rattle.model.proofs.ListLaws.{cases, clash, or-else}
-use Rattle.model.proofs.Slots.{memo-idled}
+use mathlib.Core.List.{List, [], _∷_}
+use lib.Dec.{leb}
+use borrow.Author.Tests.{leb-true, leb-false}
+use Rattle.model.specs.Kinds.{Chain, ByTicks, ByDate, Mode, kindAt, chainFor, sameChain, byTicks}
+use Rattle.model.specs.State.{Slot, Link, free, slotAt, putAt}
+use Rattle.model.specs.Directives.{neverStarted, became, idled, intervalIn, waitingAs, fired, firedAll}
+use Rattle.model.proofs.ListLaws.{cases, clash}
+use Rattle.model.proofs.KindLaws.{Alike, stopped-last, fired-last, stopped-alike, fired-alike, mode-kind, mode-last}
+use Rattle.model.proofs.Slots.{put-any}
 use Rattle.model.proofs.WellFormed.{Shape}
-use Rattle.model.proofs.Idled.{among, at-idleAll, idle-stays}
 
 pub free-shape : Shape free
 free-shape = record {
@@ -26,8 +26,8 @@ free-shape = record {
   by-date = λ e. refl;
 }
 
-pub unused-shape : (name : ℕ) → 0 < name → Shape (unused name)
-unused-shape name p = record {
+pub never-started-shape : (name : ℕ) → 0 < name → Shape (neverStarted name)
+never-started-shape name p = record {
   kinds = omega arith;
   nameless = λ e. absurd (omega arith);
   named = λ q. p;
@@ -37,65 +37,62 @@ unused-shape name p = record {
   by-date = λ e. refl;
 }
 
--- an interval is 1 or more by ticks, zero by date
-abbrev pub Interval : Chain → ℕ → Type 0
-Interval ByTicks n = 0 < n
-Interval ByDate n = n ≡ 0
+-- a start is for at least one tick
+abbrev pub Some : Chain → ℕ → Type 0
+Some ByTicks n = 0 < n
+Some ByDate d = Unit {0}
 
-pub waiting-shape : (k : Chain) (x : Slot) (interval r u : ℕ) → 0 < x .name → 0 < r → Interval k interval → Shape (waitingAs k x interval r u)
-waiting-shape k x interval r u name routine i = record {
-  kinds = omega (arith, high k);
-  nameless = λ e. absurd (omega (arith, low k));
+pub waiting-shape : (m : Mode) (x : Slot) (amount r u : ℕ) → 0 < x .name → 0 < r → Some (chainFor m) amount → Shape (waitingAs m x amount r u)
+waiting-shape m x amount r u name routine i = record {
+  kinds = omega (arith, mode-kind m .1);
+  nameless = λ e. absurd (omega (arith, mode-kind m .0));
   named = λ p. name;
-  blank = λ p. absurd (omega (arith, low k));
+  blank = λ p. absurd (omega (arith, mode-kind m .0));
   used = λ p. routine;
-  by-ticks = some k i;
-  by-date = none k i;
+  by-ticks = λ e. some (chainFor m) i (sym (ap byTicks (mode-last m)) ∙ e);
+  by-date = λ e. none (chainFor m) (sym (ap byTicks (mode-last m)) ∙ e);
 }
   where
-    low : (k : Chain) → 4 ≤ waitingKind k
-    low ByTicks = omega arith
-    low ByDate = omega arith
-
-    high : (k : Chain) → waitingKind k ≤ 5
-    high ByTicks = omega arith
-    high ByDate = omega arith
-
-    some : (k : Chain) → Interval k interval → lastByTicks (waitingKind k) ≡ true → 0 < interval
+    some : (k : Chain) → Some k amount → sameChain ByTicks k ≡ true → 0 < intervalIn k amount
     some ByTicks i e = i
     some ByDate i e = clash (sym e)
 
-    none : (k : Chain) → Interval k interval → lastByTicks (waitingKind k) ≡ false → interval ≡ 0
-    none ByTicks i e = clash e
-    none ByDate i e = i
+    none : (k : Chain) → sameChain ByTicks k ≡ false → intervalIn k amount ≡ 0
+    none ByTicks e = clash e
+    none ByDate e = refl
 
--- the kind after a timer stops
-idle-cases : {C : Type 0} (k : ℕ) → (k ≡ 4 → idleOf k ≡ 2 → C) → (k ≡ 5 → idleOf k ≡ 3 → C) → (idleOf k ≡ k → C) → C
-idle-cases k f g h =
-    cases (waitsIn ByTicks k)
-    (λ e. f (eqb-true k 4 e) (rw e))
-    (λ e. cases (waitsIn ByDate k) (λ q. g (eqb-true k 5 q) (rw (e, q))) (λ q. h (idle-stays k e q)))
+-- a slot that gets a kind of the same sort keeps its shape
+became-shape : (x : Slot) (n : ℕ) → Shape x → Alike (x .kind) n → kindAt n .last ≡ kindAt (x .kind) .last → Shape (became n x)
+became-shape x n h a last = record {
+  kinds = omega (arith, a .is-kind);
+  nameless = λ z. h .nameless (zero-kind (x .kind) n a z);
+  named = λ p. h .named (some-kind (x .kind) n a p);
+  blank = λ p. h .blank (low-kind (x .kind) n a p);
+  used = λ p. h .used (high-kind (x .kind) n a p);
+  by-ticks = λ e. h .by-ticks (sym (ap byTicks last) ∙ e);
+  by-date = λ e. h .by-date (sym (ap byTicks last) ∙ e);
+}
+  where
+    low-kind : (k n : ℕ) → Alike k n → n ≤ 1 → k ≤ 1
+    low-kind k n a p = cases (leb k 1) (λ e. leb-true k 1 e) (λ e. absurd (omega (arith, a .high (leb-false k 1 e))))
+
+    zero-kind : (k n : ℕ) → Alike k n → n ≡ 0 → k ≡ 0
+    zero-kind k n a z = omega (arith, a .low (low-kind k n a (omega arith)))
+
+    some-kind : (k n : ℕ) → Alike k n → 0 < n → 0 < k
+    some-kind k n a p = cases (leb k 1) (λ e. omega (arith, a .low (leb-true k 1 e))) (λ e. omega (arith, leb-false k 1 e))
+
+    high-kind : (k n : ℕ) → Alike k n → 2 ≤ n → 2 ≤ k
+    high-kind k n a p = cases (leb k 1) (λ e. omega (arith, a .low (leb-true k 1 e))) (λ e. leb-false k 1 e)
 
 pub idle-shape : (x : Slot) → Shape x → Shape (idled x)
-idle-shape x h =
-    let timed : lastByTicks (idleOf (x .kind)) ≡ lastByTicks (x .kind) = ap (λ m. m .timed) (memo-idled x) in
-    record {
-      kinds = idle-cases (x .kind) (λ e f. omega arith) (λ e f. omega arith) (λ f. omega (arith, h .kinds));
-      nameless = λ z. h .nameless (idle-cases (x .kind) (λ e f. omega arith) (λ e f. omega arith) (λ f. omega arith));
-      named = λ p. h .named (idle-cases (x .kind) (λ e f. omega arith) (λ e f. omega arith) (λ f. omega arith));
-      blank = λ p. h .blank (idle-cases (x .kind) (λ e f. absurd (omega arith)) (λ e f. absurd (omega arith)) (λ f. omega arith));
-      used = λ p. h .used (idle-cases (x .kind) (λ e f. omega arith) (λ e f. omega arith) (λ f. omega arith));
-      by-ticks = λ e. h .by-ticks (sym timed ∙ e);
-      by-date = λ e. h .by-date (sym timed ∙ e);
-    }
+idle-shape x h = became-shape x (kindAt (x .kind) .whenStopped) h (stopped-alike (x .kind) (omega (arith, h .kinds))) (stopped-last (x .kind))
 
-pub shape-idleAll : (ws : List Link) (slots : List Slot) → ((j : ℕ) → Shape (slotAt slots j)) → (j : ℕ) → Shape (slotAt (idleAll ws slots) j)
-shape-idleAll ws slots h j =
-    cases (among ws j)
-    (λ e. rw (at-idleAll ws slots j, e) (idle-shape (slotAt slots j) (h j)))
-    (λ e. rw (at-idleAll ws slots j, e) (h j))
+fired-shape : (x : Slot) → Shape x → Shape (fired x)
+fired-shape x h = became-shape x (kindAt (x .kind) .whenFired) h (fired-alike (x .kind) (omega (arith, h .kinds))) (fired-last (x .kind))
 
--- a kind that was last started by ticks has been started
-pub timed-started : (kind : ℕ) → lastByTicks kind ≡ true → 2 ≤ kind
-timed-started kind e =
-    cases (eqb kind 2) (λ f. omega (arith, eqb-true kind 2 f)) (λ f. omega (arith, eqb-true kind 4 (or-else (eqb kind 2) (eqb kind 4) e f)))
+pub shape-firedAll : (ws : List Link) (slots : List Slot) → ((j : ℕ) → Shape (slotAt slots j)) → (j : ℕ) → Shape (slotAt (firedAll ws slots) j)
+shape-firedAll [] slots h j = h j
+shape-firedAll (w ∷ ws) slots h j =
+    shape-firedAll ws (putAt slots (w .slot) (fired (slotAt slots (w .slot))))
+    (λ i. put-any Shape slots (w .slot) i (fired (slotAt slots (w .slot))) (fired-shape (slotAt slots (w .slot)) (h (w .slot))) (h i)) j

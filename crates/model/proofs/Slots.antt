@@ -3,16 +3,18 @@ use mathlib.Core.Path.{_≡_, refl, sym, ap, _∙_, subst}
 use Prim.Native.Nat.{ℕ, zero, suc, _≤_, _<_}
 use native.Mathlib.Nat.{not-suc-le-zero}
 use native.Mathlib.Omega.{arith}
-use mathlib.Core.Bool.{Bool, false}
+use mathlib.Core.Bool.{false}
+use mathlib.Core.Option.{Option}
 use mathlib.Core.List.{List, [], _∷_}
 use lib.ListN.{length, replicate, length-set, getD-replicate, List·getD-eq-default, length-replicate}
 use lib.Seq.{getD-set-same, getD-set-other, set-set}
 use lib.Dec.{ltb, eqb}
 use borrow.Author.Tests.{ltb-true, ltb-false, eqb-true, eqb-false}
-use Rattle.model.specs.Kinds.{ByTicks, ByDate, waitsIn, lastByTicks, idleOf}
+use Rattle.model.specs.Kinds.{Mode, kindAt}
 use Rattle.model.specs.State.{Slot, Link, free, slotAt, putAt}
-use Rattle.model.specs.Directives.{idled, idleAll}
+use Rattle.model.specs.Directives.{became, idled, fired, firedAll}
 use Rattle.model.proofs.ListLaws.{cases}
+use Rattle.model.proofs.KindLaws.{stopped-last, fired-last}
 
 pub at-same : (sl : List Slot) (i : ℕ) (x : Slot) → 0 < i → i ≤ length sl → slotAt (putAt sl i x) i ≡ x
 at-same sl zero x p q = absurd (not-suc-le-zero p)
@@ -77,30 +79,30 @@ in-range sl (suc i) e = (omega arith, within)
 -- ---- what firing and cancelling leave of a slot
 
 pub record Memo : Type 0 where
-  pub timed : Bool
+  pub last : Option Mode
   pub interval : ℕ
   pub routine : ℕ
   pub userData : ℕ
 
 abbrev pub memo : Slot → Memo
-memo x = record { timed = lastByTicks (x .kind); interval = x .interval; routine = x .routine; userData = x .userData }
+memo x = record { last = kindAt (x .kind) .last; interval = x .interval; routine = x .routine; userData = x .userData }
 
-timed-idle : (k : ℕ) → lastByTicks (idleOf k) ≡ lastByTicks k
-timed-idle k =
-    cases (waitsIn ByTicks k)
-    (λ e. rw (eqb-true k 4 e))
-    (λ e. cases (waitsIn ByDate k) (λ f. rw (eqb-true k 5 f)) (λ f. rw (e, f) (rw e)))
+memo-became : (n : ℕ) (x : Slot) → kindAt n .last ≡ kindAt (x .kind) .last → memo (became n x) ≡ memo x
+memo-became n x e = ap (λ (o : Option Mode). record { last = o; interval = x .interval; routine = x .routine; userData = x .userData }) e
 
 pub memo-idled : (x : Slot) → memo (idled x) ≡ memo x
-memo-idled x = ap (λ (b : Bool). record { timed = b; interval = x .interval; routine = x .routine; userData = x .userData }) (timed-idle (x .kind))
+memo-idled x = memo-became (kindAt (x .kind) .whenStopped) x (stopped-last (x .kind))
 
-pub memo-idleAll : (ws : List Link) (sl : List Slot) (j : ℕ) → memo (slotAt (idleAll ws sl) j) ≡ memo (slotAt sl j)
-memo-idleAll [] sl j = refl
-memo-idleAll (w ∷ ws) sl j =
-    memo-idleAll ws (putAt sl (w .slot) (idled (slotAt sl (w .slot)))) j
-    ∙ field-put memo sl (w .slot) j (idled (slotAt sl (w .slot))) (memo-idled (slotAt sl (w .slot)))
+pub memo-fired : (x : Slot) → memo (fired x) ≡ memo x
+memo-fired x = memo-became (kindAt (x .kind) .whenFired) x (fired-last (x .kind))
 
-pub length-idleAll : (ws : List Link) (sl : List Slot) → length (idleAll ws sl) ≡ length sl
-length-idleAll [] sl = refl
-length-idleAll (w ∷ ws) sl =
-    length-idleAll ws (putAt sl (w .slot) (idled (slotAt sl (w .slot)))) ∙ length-put sl (w .slot) (idled (slotAt sl (w .slot)))
+pub memo-firedAll : (ws : List Link) (sl : List Slot) (j : ℕ) → memo (slotAt (firedAll ws sl) j) ≡ memo (slotAt sl j)
+memo-firedAll [] sl j = refl
+memo-firedAll (w ∷ ws) sl j =
+    memo-firedAll ws (putAt sl (w .slot) (fired (slotAt sl (w .slot)))) j
+    ∙ field-put memo sl (w .slot) j (fired (slotAt sl (w .slot))) (memo-fired (slotAt sl (w .slot)))
+
+pub length-firedAll : (ws : List Link) (sl : List Slot) → length (firedAll ws sl) ≡ length sl
+length-firedAll [] sl = refl
+length-firedAll (w ∷ ws) sl =
+    length-firedAll ws (putAt sl (w .slot) (fired (slotAt sl (w .slot)))) ∙ length-put sl (w .slot) (fired (slotAt sl (w .slot)))

@@ -1,5 +1,5 @@
 -- The parts of the calls' work keep the chains in order. One chain over the slots is `Ordered`; each part is shown to keep that of any chain,
--- and a state with one chain replaced is `Chained` when both of its chains are ordered over its slots. Assumes nothing.
+-- and a state with one chain replaced is `Chained` when each of its chains is ordered over its slots. Assumes nothing.
 use mathlib.Core.Path.{_≡_, refl, sym, ap, _∙_, subst}
 use Prim.Native.Nat.{ℕ, _+_, _-_, _≤_, _<_}
 use native.Mathlib.Omega.{arith}
@@ -9,14 +9,15 @@ use lib.ListN.{length, replicate, length-replicate}
 use lib.Dec.{leb, ltb, eqb}
 use borrow.Author.Tests.{eqb-false, eq-eqb, ne-eqb, not-true}
 use Rattle.model.specs.Lists.{keep, place, All, Sorted}
-use Rattle.model.specs.Kinds.{Chain, ByTicks, ByDate, waitingKind, waitsIn}
-use Rattle.model.specs.State.{Slot, Link, Clock, State, chainOf, rechain, reclock, free, slotAt, putAt, without}
-use Rattle.model.specs.Directives.{laidOut, stored, stopped, waitingAs, started, idleAll, due, fire, closer, nearer}
-use Rattle.model.proofs.ListLaws.{cases, all, all-map, all-keep, all-passed, all-zip, all-place, all-mapped, sorted-place, not-leb, count-place, any-some, any-none, sorted-keep, count-parts}
-use Rattle.model.proofs.Slots.{at-same, at-other, length-put, put-at, blank, memo-idleAll, length-idleAll}
-use Rattle.model.proofs.WellFormed.{timesIn, Chained}
-use Rattle.model.proofs.Chains.{times-closer, times-without, times-other, without-none, other, below-waiting, idle-not-waiting, once, once-either}
-use Rattle.model.proofs.Idled.{among, at-idleAll}
+use Rattle.model.specs.Kinds.{Chain, ByTicks, ByDate, Mode, chainFor, sameChain, waitsIn}
+use Rattle.model.specs.State.{Slot, Link, Clock, State, chainOf, withChain, withClock, free, slotAt, putAt, without}
+use Rattle.model.specs.Directives.{laidOut, stored, stopped, intervalIn, waitingAs, started, firedAll, due, fire, closer, nearer}
+use Rattle.model.proofs.ListLaws.{cases, clash, all-map, all-keep, all-passed, all-zip, all-place, all-mapped, sorted-place, not-leb, count-place, any-some, any-none, sorted-keep, count-parts}
+use Rattle.model.proofs.Slots.{at-same, at-other, length-put, put-at, blank, memo-firedAll, length-firedAll}
+use Rattle.model.proofs.WellFormed.{timesIn, Within, Fits, Chained}
+use Rattle.model.proofs.Chains.{times-closer, times-without, times-other, without-none, once, once-apart}
+use Rattle.model.proofs.KindLaws.{own-chain, each-chain, fired-not-in, mode-in}
+use Rattle.model.proofs.FiredSlots.{among, at-firedAll}
 
 sorted-closer : (l : List Link) → Sorted (λ w. w .wait) l → Sorted (λ w. w .wait) (map closer l)
 sorted-closer [] h = tt
@@ -25,14 +26,6 @@ sorted-closer (x ∷ xs) h =
 
 -- ---- one chain over the slots
 
--- no ticks left exceed the interval; a date has none to exceed
-abbrev pub Within : Chain → ℕ → ℕ → Type 0
-Within ByTicks wait interval = wait ≤ interval
-Within ByDate wait interval = Unit {0}
-
-abbrev Fits : Chain → List Slot → Link → Type 0
-Fits k slots w = Within k (w .wait) (slotAt slots (w .slot) .interval)
-
 -- the links l are in order as chain k of a state with these slots
 record Ordered (k : Chain) (slots : List Slot) (l : List Link) : Type 0 where
   meets : (i : ℕ) → timesIn l i ≡ cond (waitsIn k (slotAt slots i .kind)) 1 0
@@ -40,45 +33,41 @@ record Ordered (k : Chain) (slots : List Slot) (l : List Link) : Type 0 where
   within : All (Fits k slots) l
 
 ordered : (s : State) → Chained s → (k : Chain) → Ordered k (s .slots) (chainOf k s)
-ordered s h ByTicks = record { meets = h .meets ByTicks; rises = h .rises ByTicks; within = h .bounded }
-ordered s h ByDate = record { meets = h .meets ByDate; rises = h .rises ByDate; within = all (λ w. tt) (s .dated) }
+ordered s h k = record { meets = h .meets k; rises = h .rises k; within = h .within k }
 
-chained : (s : State) → length (s .slots) ≤ 255 → Ordered ByTicks (s .slots) (s .ticking) → Ordered ByDate (s .slots) (s .dated) → Chained s
-chained s few t d = record { few = few; meets = meets-in; rises = rises-in; bounded = t .within }
-  where
-    meets-in : (k : Chain) (i : ℕ) → timesIn (chainOf k s) i ≡ cond (waitsIn k (slotAt (s .slots) i .kind)) 1 0
-    meets-in ByTicks i = t .meets i
-    meets-in ByDate i = d .meets i
-
-    rises-in : (k : Chain) → Sorted (λ w. w .wait) (chainOf k s)
-    rises-in ByTicks = t .rises
-    rises-in ByDate = d .rises
+chained : (s : State) → length (s .slots) ≤ 255 → ((k : Chain) → Ordered k (s .slots) (chainOf k s)) → Chained s
+chained s few o = record { few = few; meets = λ k. o k .meets; rises = λ k. o k .rises; within = λ k. o k .within }
 
 module _ (s : State) (slots : List Slot) (l : List Link) where
-  chained-rechain : (k : Chain) → length slots ≤ 255 → Ordered k slots l → Ordered (other k) slots (chainOf (other k) s) → Chained (rechain k s slots l)
-  chained-rechain ByTicks few own rest = chained (rechain ByTicks s slots l) few own rest
-  chained-rechain ByDate few own rest = chained (rechain ByDate s slots l) few rest own
-
   -- what is read of a state with one chain replaced
-  pub rechain-slots : (k : Chain) → rechain k s slots l .slots ≡ slots
-  rechain-slots ByTicks = refl
-  rechain-slots ByDate = refl
+  pub with-chain-slots : (k : Chain) → withChain k s slots l .slots ≡ slots
+  with-chain-slots ByTicks = refl
+  with-chain-slots ByDate = refl
 
-  pub rechain-clock : (k : Chain) → rechain k s slots l .clock ≡ s .clock
-  rechain-clock ByTicks = refl
-  rechain-clock ByDate = refl
+  pub with-chain-clock : (k : Chain) → withChain k s slots l .clock ≡ s .clock
+  with-chain-clock ByTicks = refl
+  with-chain-clock ByDate = refl
 
-  pub rechain-room : (k : Chain) → rechain k s slots l .room ≡ s .room
-  rechain-room ByTicks = refl
-  rechain-room ByDate = refl
+  pub with-chain-own : (k : Chain) → chainOf k (withChain k s slots l) ≡ l
+  with-chain-own ByTicks = refl
+  with-chain-own ByDate = refl
 
-  pub rechain-own : (k : Chain) → chainOf k (rechain k s slots l) ≡ l
-  rechain-own ByTicks = refl
-  rechain-own ByDate = refl
+  pub with-chain-apart : (k j : Chain) → sameChain j k ≡ false → chainOf j (withChain k s slots l) ≡ chainOf j s
+  with-chain-apart ByTicks ByTicks e = clash e
+  with-chain-apart ByTicks ByDate e = refl
+  with-chain-apart ByDate ByTicks e = refl
+  with-chain-apart ByDate ByDate e = clash e
 
-  pub rechain-other : (k : Chain) → chainOf (other k) (rechain k s slots l) ≡ chainOf (other k) s
-  rechain-other ByTicks = refl
-  rechain-other ByDate = refl
+  -- what holds of every chain of it
+  pub with-chain-each : (P : Chain → List Link → Type 0) (k : Chain) → P k l → ((j : Chain) → sameChain j k ≡ false → P j (chainOf j s))
+      → (j : Chain) → P j (chainOf j (withChain k s slots l))
+  with-chain-each P k own rest =
+      each-chain (λ j. P j (chainOf j (withChain k s slots l))) k (rw (with-chain-own k) own) (λ j e. rw (with-chain-apart k j e) (rest j e))
+
+  chained-with-chain : (k : Chain) → length slots ≤ 255 → Ordered k slots l → ((j : Chain) → sameChain j k ≡ false → Ordered j slots (chainOf j s))
+      → Chained (withChain k s slots l)
+  chained-with-chain k few own rest =
+      chained (withChain k s slots l) (rw (with-chain-slots k) few) (rw (with-chain-slots k) (with-chain-each (λ j. Ordered j slots) k own rest))
 
 -- ---- what keeps one chain in order
 
@@ -100,14 +89,14 @@ module _ (k : Chain) (slots : List Slot) (l : List Link) (h : Ordered k slots l)
   }
 
   -- it is written and put into its place
-  ordered-place : (i wait : ℕ) (x : Slot) → 0 < i → i ≤ length slots → x .kind ≡ waitingKind k → Within k wait (x .interval)
+  ordered-place : (i wait : ℕ) (x : Slot) → 0 < i → i ≤ length slots → waitsIn k (x .kind) ≡ true → Within k wait (x .interval)
       → Ordered k (putAt slots i x) (place (λ w. w .wait) (record { slot = i; wait = wait }) (without i l))
   ordered-place i wait x low high e f =
       let new : Link = record { slot = i; wait = wait } in
       record {
         meets = put-at (λ j y. timesIn (place (λ w. w .wait) new (without i l)) j ≡ cond (waitsIn k (y .kind)) 1 0) slots i x low high
             (count-place (λ w. eqb (w .slot) i) (λ w. w .wait) new (without i l)
-            ∙ rw (times-without i l, eq-eqb i i refl, eq-eqb (x .kind) (waitingKind k) e))
+            ∙ rw (times-without i l, eq-eqb i i refl, e))
             (λ j g.
             count-place (λ w. eqb (w .slot) j) (λ w. w .wait) new (without i l)
             ∙ rw (times-other i j l g, ne-eqb i j (λ q. eqb-false j i g (sym q))) (omega (arith, h .meets j)));
@@ -122,17 +111,17 @@ module _ (k : Chain) (slots : List Slot) (l : List Link) (h : Ordered k slots l)
   ordered-put i x low high e f =
       subst (Ordered k (putAt slots i x)) (without-none i l (h .meets i ∙ ap (λ (b : Bool). cond b 1 0) e)) (ordered-cut i x low high f)
 
-  -- the timers of ws stop; the links of l that are left are the rest
-  ordered-idle : (ws rest : List Link)
+  -- the timers of ws fire; the links of l that are left are the rest
+  ordered-fired : (ws rest : List Link) → ((j : ℕ) → timesIn ws j ≤ 1)
       → ((j : ℕ) → among ws j ≡ true → timesIn rest j ≡ 0) → ((j : ℕ) → among ws j ≡ false → timesIn rest j ≡ timesIn l j)
-      → Sorted (λ w. w .wait) rest → All (Fits k slots) rest → Ordered k (idleAll ws slots) rest
-  ordered-idle ws rest gone stays r b = record {
+      → Sorted (λ w. w .wait) rest → All (Fits k slots) rest → Ordered k (firedAll ws slots) rest
+  ordered-fired ws rest one gone stays r b = record {
     meets = λ j.
         cases (among ws j)
-        (λ e. rw (at-idleAll ws slots j, e) (gone j e ∙ ap (λ (b : Bool). cond b 1 0) (sym (idle-not-waiting k (slotAt slots j .kind)))))
-        (λ e. rw (at-idleAll ws slots j, e) (stays j e ∙ h .meets j));
+        (λ e. rw (at-firedAll ws slots j (one j), e) (gone j e ∙ ap (λ (b : Bool). cond b 1 0) (sym (fired-not-in k (slotAt slots j .kind)))))
+        (λ e. rw (at-firedAll ws slots j (one j), e) (stays j e ∙ h .meets j));
     rises = r;
-    within = all-map (λ w p. subst (Within k (w .wait)) (sym (ap (λ m. m .interval) (memo-idleAll ws slots (w .slot)))) p) rest b;
+    within = all-map (λ w p. subst (Within k (w .wait)) (sym (ap (λ m. m .interval) (memo-firedAll ws slots (w .slot)))) p) rest b;
   }
 
 ordered-nearer : (slots : List Slot) (l : List Link) → Ordered ByTicks slots l → Ordered ByTicks slots (map closer l)
@@ -144,14 +133,13 @@ ordered-nearer slots l h = record {
 
 -- ---- stored, stopped, started
 
--- the kind that waits in a chain does not wait in the other
-waits-apart : (k : Chain) → waitsIn (other k) (waitingKind k) ≡ false
-waits-apart ByTicks = refl
-waits-apart ByDate = refl
-
 module _ (s : State) (i : ℕ) (x : Slot) where
   pub length-stored : length (stored s i x .slots) ≡ length (s .slots)
   length-stored = length-put (s .slots) i x
+
+  pub stored-chain : (k : Chain) → chainOf k (stored s i x) ≡ chainOf k s
+  stored-chain ByTicks = refl
+  stored-chain ByDate = refl
 
   pub length-stopped : length (stopped s i x .slots) ≡ length (s .slots)
   length-stopped = length-put (s .slots) i x
@@ -165,39 +153,45 @@ module _ (s : State) (h : Chained s) (i : ℕ) (x : Slot) (low : 0 < i) (high : 
   few-put = omega (arith, length-put (s .slots) i x, h .few)
 
   pub chained-stored : slotAt (s .slots) i .kind ≡ 0 → ((k : Chain) → waitsIn k (x .kind) ≡ false) → Chained (stored s i x)
-  chained-stored e n = chained (stored s i x) few-put (still ByTicks) (still ByDate)
+  chained-stored e n = chained (stored s i x) few-put still
     where
-      still : (k : Chain) → Ordered k (putAt (s .slots) i x) (chainOf k s)
-      still k = ordered-put k (s .slots) (chainOf k s) (ordered s h k) i x low high (below-waiting k (slotAt (s .slots) i .kind) (omega arith)) (n k)
+      still : (k : Chain) → Ordered k (putAt (s .slots) i x) (chainOf k (stored s i x))
+      still k = rw (stored-chain s i x k)
+          (ordered-put k (s .slots) (chainOf k s) (ordered s h k) i x low high (ap (λ (n : ℕ). waitsIn k n) e) (n k))
 
   ordered-stopped : (k : Chain) → waitsIn k (x .kind) ≡ false → Ordered k (putAt (s .slots) i x) (chainOf k (stopped s i x))
   ordered-stopped k n = rw (stopped-chain s i x k) (ordered-cut k (s .slots) (chainOf k s) (ordered s h k) i x low high n)
 
   pub chained-stopped : ((k : Chain) → waitsIn k (x .kind) ≡ false) → Chained (stopped s i x)
-  chained-stopped n = chained (stopped s i x) few-put (ordered-stopped ByTicks (n ByTicks)) (ordered-stopped ByDate (n ByDate))
+  chained-stopped n = chained (stopped s i x) few-put (λ k. ordered-stopped k (n k))
 
-module _ (k : Chain) (s : State) where
-  pub chained-started : Chained s → (i wait interval r u : ℕ) → 0 < i → i ≤ length (s .slots) → Within k wait interval
-      → Chained (started k s i wait interval r u)
-  chained-started h i wait interval r u low high f =
-      let x : Slot = waitingAs k (slotAt (s .slots) i) interval r u in
+module _ (m : Mode) (s : State) where
+  pub chained-started : Chained s → (i amount r u : ℕ) → 0 < i → i ≤ length (s .slots) → Chained (started m s i amount r u)
+  chained-started h i amount r u low high =
+      let k = chainFor m in
+      let x : Slot = waitingAs m (slotAt (s .slots) i) amount r u in
       rw (stopped-chain s i x k) (
-      chained-rechain (stopped s i x) (putAt (s .slots) i x) (place (λ w. w .wait) (record { slot = i; wait = wait }) (without i (chainOf k s))) k
+      chained-with-chain (stopped s i x) (putAt (s .slots) i x) (place (λ w. w .wait) (record { slot = i; wait = amount }) (without i (chainOf k s))) k
       (few-put s h i x low high)
-      (ordered-place k (s .slots) (chainOf k s) (ordered s h k) i wait x low high refl f)
-      (ordered-stopped s h i x low high (other k) (waits-apart k)))
+      (ordered-place k (s .slots) (chainOf k s) (ordered s h k) i amount x low high (mode-in m k ∙ own-chain k) (fits k))
+      (λ j e. ordered-stopped s h i x low high j (mode-in m j ∙ e)))
+    where
+      fits : (k : Chain) → Within k amount (intervalIn k amount)
+      fits ByTicks = omega arith
+      fits ByDate = tt
 
-  pub length-started : (i wait interval r u : ℕ) → length (started k s i wait interval r u .slots) ≡ length (s .slots)
-  length-started i wait interval r u = simp (rechain-slots, length-put)
+  pub length-started : (i amount r u : ℕ) → length (started m s i amount r u .slots) ≡ length (s .slots)
+  length-started i amount r u = simp (with-chain-slots, length-put)
 
 -- ---- fired, a tick nearer, at another time, laid out
 
+pub with-clock-chain : (s : State) (c : Clock) (k : Chain) → chainOf k (withClock s c) ≡ chainOf k s
+with-clock-chain s c ByTicks = refl
+with-clock-chain s c ByDate = refl
+
 module _ (k : Chain) (limit : ℕ) (s : State) where
   pub length-fire : length (fire k limit s .slots) ≡ length (s .slots)
-  length-fire = simp (rechain-slots, length-idleAll)
-
-  pub room-fire : fire k limit s .room ≡ s .room
-  room-fire = simp rechain-room
+  length-fire = simp (with-chain-slots, length-firedAll)
 
   -- the timers that are due, and those that are not, are the chain
   due-parts : (j : ℕ) → timesIn (due k limit s) j + timesIn (keep (λ w. ltb limit (w .wait)) (chainOf k s)) j ≡ timesIn (chainOf k s) j
@@ -208,30 +202,43 @@ module _ (k : Chain) (limit : ℕ) (s : State) where
       let ws = due k limit s in
       let later : Link → Bool = λ w. ltb limit (w .wait) in
       let own = ordered s h k in
-      let rest = ordered s h (other k) in
-      chained-rechain s (idleAll ws (s .slots)) (keep later (chainOf k s)) k
-      (omega (arith, length-idleAll ws (s .slots), h .few))
-      (ordered-idle k (s .slots) (chainOf k s) own ws (keep later (chainOf k s))
+      let one : (j : ℕ) → timesIn ws j ≤ 1 = λ j. omega (arith, due-parts j, once s h k j) in
+      chained-with-chain s (firedAll ws (s .slots)) (keep later (chainOf k s)) k
+      (omega (arith, length-firedAll ws (s .slots), h .few))
+      (ordered-fired k (s .slots) (chainOf k s) own ws (keep later (chainOf k s)) one
       (λ j e. omega (arith, any-some (λ w. eqb (w .slot) j) ws e, due-parts j, once s h k j))
       (λ j e. omega (arith, any-none (λ w. eqb (w .slot) j) ws e, due-parts j))
       (sorted-keep (λ w. w .wait) later (chainOf k s) (own .rises))
       (all-keep (Fits k (s .slots)) later (chainOf k s) (own .within)))
-      (ordered-idle (other k) (s .slots) (chainOf (other k) s) rest ws (chainOf (other k) s)
-      (λ j e. omega (arith, any-some (λ w. eqb (w .slot) j) ws e, due-parts j, once-either s h k j))
+      (λ o apart.
+      let rest = ordered s h o in
+      ordered-fired o (s .slots) (chainOf o s) rest ws (chainOf o s) one
+      (λ j e. omega (arith, any-some (λ w. eqb (w .slot) j) ws e, due-parts j, once-apart s h o k apart j))
       (λ j e. refl) (rest .rises) (rest .within))
 
 pub chained-nearer : (s : State) → Chained s → Chained (nearer s)
-chained-nearer s h = chained (nearer s) (h .few) (ordered-nearer (s .slots) (s .ticking) (ordered s h ByTicks)) (ordered s h ByDate)
+chained-nearer s h =
+    chained-with-chain s (s .slots) (map closer (s .ticking)) ByTicks (h .few) (ordered-nearer (s .slots) (s .ticking) (ordered s h ByTicks))
+    (λ j _. ordered s h j)
 
-pub chained-reclock : (s : State) (c : Clock) → Chained s → Chained (reclock s c)
-chained-reclock s c h = chained (reclock s c) (h .few) (ordered s h ByTicks) (ordered s h ByDate)
+pub chained-with-clock : (s : State) (c : Clock) → Chained s → Chained (withClock s c)
+chained-with-clock s c h = record {
+  few = h .few;
+  meets = λ k. rw (with-clock-chain s c k) (h .meets k);
+  rises = λ k. rw (with-clock-chain s c k) (h .rises k);
+  within = λ k. rw (with-clock-chain s c k) (h .within k);
+}
 
-module _ (room n t : ℕ) where
-  pub length-laid : length (laidOut room n t .slots) ≡ n
+module _ (n t : ℕ) where
+  pub length-laid : length (laidOut n t .slots) ≡ n
   length-laid = length-replicate n free
 
-  pub chained-laid : n ≤ 255 → Chained (laidOut room n t)
-  chained-laid few = chained (laidOut room n t) (omega (arith, length-laid)) (empty ByTicks) (empty ByDate)
+  pub laid-chain : (k : Chain) → chainOf k (laidOut n t) ≡ []
+  laid-chain ByTicks = refl
+  laid-chain ByDate = refl
+
+  pub chained-laid : n ≤ 255 → Chained (laidOut n t)
+  chained-laid few = chained (laidOut n t) (omega (arith, length-laid)) (λ k. rw (laid-chain k) (empty k))
     where
       empty : (k : Chain) → Ordered k (replicate n free) []
-      empty k = record { meets = λ i. rw (blank n i, below-waiting k 0 (omega arith)); rises = tt; within = tt }
+      empty k = record { meets = λ i. rw (blank n i); rises = tt; within = tt }

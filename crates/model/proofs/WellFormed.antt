@@ -6,21 +6,30 @@ use mathlib.Core.List.{List, []}
 use lib.ListN.{length}
 use lib.Dec.{eqb}
 use Rattle.model.specs.Lists.{count, All, Sorted}
-use Rattle.model.specs.Kinds.{Chain, waitsIn, lastByTicks}
+use Rattle.model.specs.Kinds.{Chain, ByTicks, ByDate, waitsIn, lastByTicks}
 use Rattle.model.specs.State.{Slot, Link, State, chainOf, slotAt}
 use Rattle.calendar.specs.Calendar.{lastSecond}
-use Rattle.model.specs.Words.{over}
+use Rattle.model.specs.Words.{writtenOver}
 
 -- how often the slot i stands in a chain
 abbrev pub timesIn : List Link → ℕ → ℕ
 timesIn l i = count (λ w. eqb (w .slot) i) l
+
+-- no ticks left exceed the interval; a date has none to exceed
+abbrev pub Within : Chain → ℕ → ℕ → Type 0
+Within ByTicks wait interval = wait ≤ interval
+Within ByDate wait interval = Unit {0}
+
+-- a link fits its slot
+abbrev pub Fits : Chain → List Slot → Link → Type 0
+Fits k slots w = Within k (w .wait) (slotAt slots (w .slot) .interval)
 
 -- The chains are in order. This holds between the steps of a call too, where the first wait may be 0 and dates may be past.
 pub record Chained (s : State) : Type 0 where
   pub few : length (s .slots) ≤ 255
   pub meets : (k : Chain) (i : ℕ) → timesIn (chainOf k s) i ≡ cond (waitsIn k (slotAt (s .slots) i .kind)) 1 0
   pub rises : (k : Chain) → Sorted (λ w. w .wait) (chainOf k s)
-  pub bounded : All (λ w. w .wait ≤ slotAt (s .slots) (w .slot) .interval) (s .ticking)
+  pub within : (k : Chain) → All (Fits k (s .slots)) (chainOf k s)
 
 -- the words of one slot, links and wait apart
 pub record Shape (x : Slot) : Type 0 where
@@ -46,7 +55,6 @@ pub record WellFormed (s : State) : Type 0 where
 
 -- the words of t are those of s, and the chains of s are in order
 pub record Holds (t : List ℕ) (s : State) : Type 0 where
-  pub is : over s t ≡ t
+  pub is : writtenOver s t ≡ t
   pub long : 10 + 8 * length (s .slots) ≤ length t
-  pub room : s .room ≡ length t
   pub chained : Chained s

@@ -1,7 +1,9 @@
 -- The calls with their arguments, in document 01's order. A list that is lent to a call comes with its words.
 -- Assumes nothing: these are definitions.
 use Prim.Native.Nat.{ℕ}
-use mathlib.Core.List.{List}
+use mathlib.Core.Bool.{Bool, cond}
+use mathlib.Core.List.{List, []}
+use lib.Dec.{eqb}
 use Rattle.calendar.specs.declared.WallTime.{WallTime}
 
 pub data Call : Type 0 where
@@ -23,3 +25,41 @@ pub data Call : Type 0 where
   tick : List ℕ → Call
   setClock : WallTime → List ℕ → Call
   getClock : Call
+
+-- the calls' numbers, by the list that opens document 01
+abbrev pub callNumber : Call → ℕ
+callNumber (layOut n t) = 1
+callNumber (create name) = 2
+callNumber (ident name) = 3
+callNumber (cancel id) = 4
+callNumber (delete id) = 5
+callNumber (fireAfter id n r u) = 6
+callNumber (fireWhen id w r u) = 7
+callNumber (reset id) = 8
+callNumber (ticksLeft id) = 9
+callNumber (tick list) = 10
+callNumber (setClock w list) = 11
+callNumber getClock = 12
+
+-- lay out takes any slice of words, where every other call wants a sound table
+abbrev pub isLayOut : Call → Bool
+isLayOut c = eqb (callNumber c) 1
+
+-- the list that is lent to a call; no words where it takes none
+abbrev pub lentTo : Call → List ℕ
+lentTo (layOut n t) = []
+lentTo (create name) = []
+lentTo (ident name) = []
+lentTo (cancel id) = []
+lentTo (delete id) = []
+lentTo (fireAfter id n r u) = []
+lentTo (fireWhen id w r u) = []
+lentTo (reset id) = []
+lentTo (ticksLeft id) = []
+lentTo (tick list) = list
+lentTo (setClock w list) = list
+lentTo getClock = []
+
+-- how many numbers a call answers: get clock seven, any other one
+abbrev pub answerCount : Call → ℕ
+answerCount c = cond (eqb (callNumber c) 12) 7 1

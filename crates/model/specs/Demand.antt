@@ -4,17 +4,17 @@ use Prim.Native.Nat.{ℕ, _+_, _*_, _≤_}
 use mathlib.Core.Bool.{true, false, cond}
 use mathlib.Core.Option.{none, some}
 use mathlib.Core.List.{List, [], _∷_, _++_, map, reverse}
-use lib.ListN.{length}
+use lib.ListN.{length, getD, replicate}
 use lib.Dec.{eqb}
+use Rattle.calendar.specs.declared.WallTime.{WallTime}
 use Rattle.model.specs.Lists.{keep, count, InOrder}
-use Rattle.model.specs.Calls.{Call, layOut}
-use Rattle.model.specs.Kinds.{Chain, ByTicks, ByDate}
-use Rattle.model.specs.State.{Slot, Link, listed}
-use Rattle.model.specs.Directives.{effect}
-use Rattle.model.specs.Words.{word, field, first, along, links, read}
+use Rattle.model.specs.Calls.{Call, layOut, create, cancel, reset, tick, setClock, lentTo, answerCount}
+use Rattle.model.specs.Kinds.{Chain, ByTicks, ByDate, kindAt, chainFor}
+use Rattle.model.specs.State.{Slot, Link, slotAt, indexOf, names, Fired, listed}
+use Rattle.model.specs.Words.{first, sumOf, word, along, links, read, slotCount, ticksPerSecond, clockSet, seconds, ticksInto, previousOf}
 use Rattle.model.specs.Sound.{sound}
-use Rattle.model.specs.Outcome.{outcome, written, refused}
-use Rattle.model.specs.History.{Event, Placed, Waiting, eventOf, eventsFrom, perSecond, clockAfter, moves, starts, waits, fires, inChain, dueAt, waiting, entry}
+use Rattle.model.specs.Outcome.{outcome}
+use Rattle.model.specs.History.{Start, Event, changes, lastsAfter, Placed, Waiting, eventOf, eventsOn, perSecond, clockAfter, movesClock, starts, waits, fires, inChain, ticksLeftOrDate, waiting, entry}
 
 -- Each call gets the table that the last one left.
 abbrev pub after : List ℕ → List Call → List ℕ
@@ -26,52 +26,89 @@ abbrev pub acceptedIn : List ℕ → List Call → List Call
 acceptedIn t [] = []
 acceptedIn t (c ∷ cs) = cond (eqb (outcome t c .status) 0) (c ∷ acceptedIn (outcome t c .table) cs) (acceptedIn (outcome t c .table) cs)
 
--- a link of a chain with the entry of its slot
+-- a link of a chain with what its slot shows
 abbrev pub shown : List Slot → Link → Waiting
-shown slots w = record { shows = listed slots w; wait = w .wait }
+shown slots w =
+    let x = slotAt slots (w .slot) in
+    record { shows = listed slots w; mode = kindAt (x .kind) .last; interval = x .interval; wait = w .wait }
 
 -- What the table t has to be after these events.
 pub record Standing (t : List ℕ) (es : List Event) : Type 0 where
   pub is-sound : sound t ≡ true
   -- Each chain gives its own waiting timers in firing order by next from word 5 or 6, the earlier start first among equals,
-  -- with their ticks left or dates, and the routine and data of their starts; and nothing else.
-  pub by-next : (k : Chain) → (l : List Placed) × InOrder dueAt (keep (inChain k) (keep waits (starts es))) l
+  -- with their ticks left or dates, and the interval, routine and data of their starts; and nothing else.
+  pub by-next : (k : Chain) → (l : List Placed) × InOrder ticksLeftOrDate (keep (inChain k) (keep waits (starts es))) l
       × (map (shown (read t .slots)) (links k t) ≡ map waiting l)
   -- The same in reverse by previous from its last slot.
-  pub by-previous : (k : Chain) → along (field t 7) (word t 0) (first (reverse (links k t))) ≡ map (λ w. w .slot) (reverse (links k t))
+  pub by-previous : (k : Chain) → along (previousOf t) (slotCount t) (first (reverse (links k t))) ≡ map (λ w. w .slot) (reverse (links k t))
   -- Each waiting timer stands there once.
-  pub once : (i : ℕ) → count (λ w. eqb (w .slot) i) (links ByTicks t) + count (λ w. eqb (w .slot) i) (links ByDate t) ≤ 1
+  pub once : (i : ℕ) → sumOf (λ _ c. count (λ w. eqb (w .slot) i) c) (read t) ≤ 1
   -- The table's T and its clock, counted in ticks, are those of the events; it is unset where theirs is.
-  pub rate : perSecond (reverse es) ≡ word t 1
-  pub clock : clockAfter 0 (reverse es) ≡ cond (eqb (word t 2) 1) (some (word t 3 * word t 1 + word t 4)) none
+  pub rate : perSecond es ≡ ticksPerSecond t
+  pub clock : clockAfter 0 es ≡ cond (eqb (clockSet t) 1) (some (seconds t * ticksPerSecond t + ticksInto t)) none
+
+-- entry number i of a list, three words each: id, then routine and data
+pub record EntryAt (list : List ℕ) (i : ℕ) (f : Fired) : Type 0 where
+  pub id : word list (3 * i) ≡ f .id
+  pub routine : word list (3 * i + 1) ≡ f .routine
+  pub userData : word list (3 * i + 2) ≡ f .userData
+
+-- a list has these entries, in this order, and after them the words with which it was lent
+pub record Begins (list lent : List ℕ) (fs : List Fired) : Type 0 where
+  pub entry : (xs ys : List Fired) (f : Fired) → fs ≡ xs ++ (f ∷ ys) → EntryAt list (length xs) f
+  pub rest : (m : ℕ) → 3 * length fs ≤ m → word list m ≡ word lent m
+  pub as-long : length list ≡ length lent
 
 -- What the accepted call c, which is the event e, has to list on the table t after these events: the timers that fire in it, those due in this
--- call and not ended before, interval ones first, each kind in firing order. A tick and a set clock answer their number, any other call lists
--- nothing, and there are never more than slots.
+-- call and not ended before, interval ones first, each kind in firing order. A tick and a set clock answer their number, no other call fires
+-- any, and there are never more than slots.
 pub record Lists (t : List ℕ) (es : List Event) (c : Call) (e : Event) : Type 0 where
   pub ticking : List Placed
   pub dated : List Placed
-  pub ticking-order : InOrder dueAt (keep (inChain ByTicks) (keep (fires e) (starts es))) ticking
-  pub dated-order : InOrder dueAt (keep (inChain ByDate) (keep (fires e) (starts es))) dated
-  pub entries : outcome t c .list ≡ written (map entry (ticking ++ dated)) (effect (read t) c .lent)
-  pub counted : moves e ≡ true → outcome t c .answer ≡ length (ticking ++ dated) ∷ []
-  pub quiet : moves e ≡ false → ticking ++ dated ≡ []
-  pub few : length (ticking ++ dated) ≤ word t 0
+  pub ticking-order : InOrder ticksLeftOrDate (keep (inChain ByTicks) (keep (fires e) (starts es))) ticking
+  pub dated-order : InOrder ticksLeftOrDate (keep (inChain ByDate) (keep (fires e) (starts es))) dated
+  pub entries : Begins (outcome t c .list) (lentTo c) (map entry (ticking ++ dated))
+  pub counted : movesClock e ≡ true → outcome t c .answer ≡ length (ticking ++ dated) ∷ []
+  pub fires-none : movesClock e ≡ false → ticking ++ dated ≡ []
+  pub few : length (ticking ++ dated) ≤ slotCount t
 
--- A refused call changes no word and answers zero.
+-- the first number of an answer
+abbrev pub firstNumber : List ℕ → ℕ
+firstNumber answer = getD answer 0 0
+
+-- What is demanded of the call c, which is the event e where it is accepted, on the table t after these events.
 pub record Answers (t : List ℕ) (es : List Event) (c : Call) (e : Event) : Type 0 where
   pub lists : outcome t c .status ≡ 0 → Lists t es c e
-  pub refuses : (outcome t c .status ≡ 0 → ⊥) → outcome t c ≡ refused (outcome t c .status) t c
+  -- A tick and a set clock are lent that list, no other call is.
+  pub lent-tick : (list : List ℕ) → c ≡ tick list → lentTo c ≡ list
+  pub lent-set : (w : WallTime) (list : List ℕ) → c ≡ setClock w list → lentTo c ≡ list
+  -- A cancelled timer waits no more.
+  pub cancels : (id : ℕ) → c ≡ cancel id → outcome t c .status ≡ 0
+      → sumOf (λ _ l. count (λ w. eqb (w .slot) (indexOf id)) l) (read (outcome t c .table)) ≡ 0
+  -- An accepted reset is a start for ticks, of that timer's last start.
+  pub restarts : (id : ℕ) → c ≡ reset id → outcome t c .status ≡ 0
+      → (s : Start) × (e ≡ changes id (some s)) × (s .id ≡ id) × (chainFor (s .mode) ≡ ByTicks)
+  -- An id names a timer as long as it lasts; a create answers one that named none.
+  pub lasts : outcome t c .status ≡ 0 → (id : ℕ)
+      → names (read (outcome t c .table)) id ≡ lastsAfter c (firstNumber (outcome t c .answer)) id (names (read t) id)
+  pub anew : (name : ℕ) → c ≡ create name → outcome t c .status ≡ 0 → names (read t) (firstNumber (outcome t c .answer)) ≡ false
+  -- Words past 10 + 8N are never changed.
+  pub size : length (outcome t c .table) ≡ length t
+  pub beyond : (m : ℕ) → 10 + 8 * slotCount (outcome t c .table) ≤ m → word (outcome t c .table) m ≡ word t m
+  -- A refused call changes no word of the table or of the list that it was lent, and answers zero.
+  pub refuses : (outcome t c .status ≡ 0 → ⊥)
+      → (outcome t c .table ≡ t) × (outcome t c .list ≡ lentTo c) × (outcome t c .answer ≡ replicate (answerCount c) 0)
 
--- what the accepted calls of a list mean
+-- what the accepted calls of a list mean, the latest first
 abbrev pub eventsAfter : List ℕ → List Call → List Event
-eventsAfter w cs = eventsFrom [] (acceptedIn w cs)
+eventsAfter w cs = eventsOn [] (acceptedIn w cs)
 
--- What is demanded of the whole list cs after a lay out for n and t of the slice w: after every prefix, and in every call.
+-- What is demanded of the whole list cs after a lay out for n and t of the slice w: after every prefix, and in every call. It begins with no timer.
 pub record Demanded (w : List ℕ) (n t : ℕ) (cs : List Call) : Type 0 where
+  pub empty : (id : ℕ) → names (read (after w (layOut n t ∷ []))) id ≡ false
   pub standing : (xs ys : List Call) → xs ++ ys ≡ cs → Standing (after w (layOut n t ∷ xs)) (eventsAfter w (layOut n t ∷ xs))
   pub answers : (xs ys : List Call) (c : Call) → xs ++ (c ∷ ys) ≡ cs →
-      Answers (after w (layOut n t ∷ xs)) (eventsAfter w (layOut n t ∷ xs)) c (eventOf (reverse (eventsAfter w (layOut n t ∷ xs))) c)
+      Answers (after w (layOut n t ∷ xs)) (eventsAfter w (layOut n t ∷ xs)) c (eventOf (eventsAfter w (layOut n t ∷ xs)) c)
 
 -- The single claim: every slice, every accepted lay out on it, every list of calls.
 abbrev pub Demand3 : Type 0

@@ -1,4 +1,5 @@
--- Document 01, "Status numbers" and "What each call does", the calls in its order. Assumes nothing: these are definitions.
+-- Document 01, "Status numbers" and "What each call does": for each call, in its order, when it is refused and what it does.
+-- Assumes nothing: these are definitions.
 use Prim.Native.Nat.{ℕ, suc, _+_, _-_, _*_}
 use mathlib.Core.Bool.{Bool, true, false, cond, not, _&&_}
 use mathlib.Core.List.{List, [], _∷_, _++_, map}
@@ -9,10 +10,11 @@ use Rattle.calendar.specs.Calendar.{allOf, valid, secondsOf, lastSecond, dateOf
 use Rattle.model.specs.Lists.{keep, place}
 use Rattle.model.specs.Status.{Refusal, when, InvalidName, InvalidId, TooMany, InvalidSize, InvalidAddress, InvalidNumber, NotDefined, InvalidClock, NotSound, ListTooShort}
 use Rattle.model.specs.Calls.{Call, layOut, create, ident, cancel, delete, fireAfter, fireWhen, reset, ticksLeft, tick, setClock, getClock}
-use Rattle.model.specs.Kinds.{Chain, ByTicks, ByDate, waitingKind, idleOf, lastByTicks}
-use Rattle.model.specs.State.{Slot, Link, Clock, State, chainOf, rechain, reclock, free, slotAt, putAt, lowest, without, waitAt, idBase, indexOf, names}
+use Rattle.model.specs.Kinds.{Chain, ByTicks, ByDate, Mode, After, When, kindAt, chainFor, waitingKind, lastByTicks, lastMode}
+use Rattle.model.specs.Sound.{sound}
+use Rattle.model.specs.State.{Slot, Link, Clock, State, chainOf, withChain, withClock, free, slotAt, putAt, lowest, without, waitAt, idBase, indexOf, names}
 
--- ---- when a call is refused, in the order of the rules
+-- ---- what the rules test
 
 -- the lowest free slot; the lowest slot with that name, which is not 0: a slot is 0 where there is none
 abbrev pub lowestFree : State → ℕ
@@ -28,88 +30,88 @@ isShort s list = ltb (length list) (3 * length (s .slots))
 abbrev pub notAhead : State → WallTime → Bool
 notAhead s w = not (valid w && ltb (s .clock .second) (secondsOf w))
 
--- The table of status numbers, read by call: 100, 101, then fire after 10, 9, 4; fire when 11, 9, 20, 4; create 3, 5; reset 4, 11; lay out 10, 8.
--- `unsound` says that the table is not sound.
-abbrev pub refusals : Bool → State → Call → List Refusal
-refusals unsound s (layOut n t) =
-    when InvalidNumber (not (allOf (leb 1 n ∷ leb n 255 ∷ leb 1 t ∷ leb t 1000 ∷ []))) ∷ when InvalidSize (ltb (s .room) (10 + 8 * n)) ∷ []
-refusals unsound s (create name) = when NotSound unsound ∷ when InvalidName (eqb name 0) ∷ when TooMany (eqb (lowestFree s) 0) ∷ []
-refusals unsound s (ident name) = when NotSound unsound ∷ when InvalidName (eqb name 0) ∷ when InvalidName (eqb (lowestNamed s name) 0) ∷ []
-refusals unsound s (cancel id) = when NotSound unsound ∷ when InvalidId (not (names s id)) ∷ []
-refusals unsound s (delete id) = when NotSound unsound ∷ when InvalidId (not (names s id)) ∷ []
-refusals unsound s (fireAfter id n r u) =
-    when NotSound unsound ∷ when InvalidNumber (eqb n 0) ∷ when InvalidAddress (eqb r 0) ∷ when InvalidId (not (names s id)) ∷ []
-refusals unsound s (fireWhen id w r u) =
-    when NotSound unsound ∷ when NotDefined (not (s .clock .isSet)) ∷ when InvalidAddress (eqb r 0)
-    ∷ when InvalidClock (notAhead s w) ∷ when InvalidId (not (names s id)) ∷ []
-refusals unsound s (reset id) =
-    when NotSound unsound ∷ when InvalidId (not (names s id))
-    ∷ when NotDefined (not (lastByTicks (slotAt (s .slots) (indexOf id) .kind))) ∷ []
-refusals unsound s (ticksLeft id) = when NotSound unsound ∷ when InvalidId (not (names s id)) ∷ []
-refusals unsound s (tick list) = when NotSound unsound ∷ when ListTooShort (isShort s list) ∷ []
-refusals unsound s (setClock w list) =
-    when NotSound unsound ∷ when ListTooShort (isShort s list) ∷ when InvalidClock (not (valid w)) ∷ []
-refusals unsound s getClock = when NotSound unsound ∷ when NotDefined (not (s .clock .isSet)) ∷ []
+-- N is 1 to 255 and T 1 to 1,000
+abbrev pub limits : ℕ → ℕ → List Bool
+limits n t = leb 1 n ∷ leb n 255 ∷ leb 1 t ∷ leb t 1000 ∷ []
+
+-- Any call but lay out: table not sound. The id names no timer.
+abbrev pub unsound : List ℕ → Refusal
+unsound t = when NotSound (not (sound t))
+
+abbrev pub noSuchId : State → ℕ → Refusal
+noSuchId s id = when InvalidId (not (names s id))
 
 -- ---- the parts of the calls' work
 
 -- Lay out: header as given, clock not set, all slots free.
-abbrev pub laidOut : ℕ → ℕ → ℕ → State
-laidOut room n t =
+abbrev pub laidOut : ℕ → ℕ → State
+laidOut n t =
     let clock : Clock = record { perSecond = t; isSet = false; second = 0; ticksInto = 0 } in
-    record { room = room; slots = replicate n free; clock = clock; ticking = []; dated = [] }
+    record { slots = replicate n free; clock = clock; ticking = []; dated = [] }
 
 -- slot i, in no chain, becomes x
 abbrev pub stored : State → ℕ → Slot → State
-stored s i x = rechain ByTicks s (putAt (s .slots) i x) (s .ticking)
+stored s i x = withChain ByTicks s (putAt (s .slots) i x) (s .ticking)
 
 -- Create: the slot becomes kind 1.
-abbrev pub unused : ℕ → Slot
-unused name = record { kind = 1; name = name; interval = 0; routine = 0; userData = 0 }
+abbrev pub neverStarted : ℕ → Slot
+neverStarted name = record { kind = 1; name = name; interval = 0; routine = 0; userData = 0 }
 
 -- slot i becomes x and waits no more
 abbrev pub stopped : State → ℕ → Slot → State
 stopped s i x =
     let slots = putAt (s .slots) i x in
-    rechain ByTicks (rechain ByDate s slots (without i (s .dated))) slots (without i (s .ticking))
+    withChain ByTicks (withChain ByDate s slots (without i (s .dated))) slots (without i (s .ticking))
+
+-- the slot with another kind
+abbrev pub became : ℕ → Slot → Slot
+became kind x = record { kind = kind; name = x .name; interval = x .interval; routine = x .routine; userData = x .userData }
 
 -- Cancel: a waiting timer becomes idle of its own kind. One that isn't waiting stays as it is. (Its follower takes over its wait since the other
 -- links keep their ticks left, and a wait is the difference of two: `Words`.)
 abbrev pub idled : Slot → Slot
-idled x = record { kind = idleOf (x .kind); name = x .name; interval = x .interval; routine = x .routine; userData = x .userData }
+idled x = became (kindAt (x .kind) .whenStopped) x
 
 -- It goes behind every timer due at the same tick, or date.
-abbrev pub queued : Chain → State → ℕ → ℕ → State
-queued k s i wait = rechain k s (s .slots) (place (λ w. w .wait) (record { slot = i; wait = wait }) (chainOf k s))
+abbrev pub inserted : Chain → State → ℕ → ℕ → State
+inserted k s i wait = withChain k s (s .slots) (place (λ w. w .wait) (record { slot = i; wait = wait }) (chainOf k s))
 
--- the slot of a timer that was started in chain k
-abbrev pub waitingAs : Chain → Slot → ℕ → ℕ → ℕ → Slot
-waitingAs k x interval routine userData =
-    record { kind = waitingKind k; name = x .name; interval = interval; routine = routine; userData = userData }
+-- the interval of a start: its ticks, 0 for one by date
+abbrev pub intervalIn : Chain → ℕ → ℕ
+intervalIn ByTicks n = n
+intervalIn ByDate d = 0
+
+-- the slot of a timer that was started for so many ticks, or for a date
+abbrev pub waitingAs : Mode → Slot → ℕ → ℕ → ℕ → Slot
+waitingAs m x amount routine userData =
+    record { kind = waitingKind m; name = x .name; interval = intervalIn (chainFor m) amount; routine = routine; userData = userData }
 
 -- Fire after, fire when: cancelled if waiting, then waits.
-abbrev pub started : Chain → State → ℕ → ℕ → ℕ → ℕ → ℕ → State
-started k s i wait interval routine userData =
-    queued k (stopped s i (waitingAs k (slotAt (s .slots) i) interval routine userData)) i wait
+abbrev pub started : Mode → State → ℕ → ℕ → ℕ → ℕ → State
+started m s i amount routine userData =
+    inserted (chainFor m) (stopped s i (waitingAs m (slotAt (s .slots) i) amount routine userData)) i amount
 
 -- A fired timer becomes idle of its kind.
-abbrev pub idleAll : List Link → List Slot → List Slot
-idleAll [] slots = slots
-idleAll (w ∷ ws) slots = idleAll ws (putAt slots (w .slot) (idled (slotAt slots (w .slot))))
+abbrev pub fired : Slot → Slot
+fired x = became (kindAt (x .kind) .whenFired) x
+
+abbrev pub firedAll : List Link → List Slot → List Slot
+firedAll [] slots = slots
+firedAll (w ∷ ws) slots = firedAll ws (putAt slots (w .slot) (fired (slotAt slots (w .slot))))
 
 -- the timers of chain k at or before a number, in chain order; and the state after they fired
 abbrev pub due : Chain → ℕ → State → List Link
 due k limit s = keep (λ w. leb (w .wait) limit) (chainOf k s)
 
 abbrev pub fire : Chain → ℕ → State → State
-fire k limit s = rechain k s (idleAll (due k limit s) (s .slots)) (keep (λ w. ltb limit (w .wait)) (chainOf k s))
+fire k limit s = withChain k s (firedAll (due k limit s) (s .slots)) (keep (λ w. ltb limit (w .wait)) (chainOf k s))
 
 -- Tick: every interval timer comes one tick nearer.
 abbrev pub closer : Link → Link
 closer w = record { slot = w .slot; wait = w .wait - 1 }
 
 abbrev pub nearer : State → State
-nearer s = rechain ByTicks s (s .slots) (map closer (s .ticking))
+nearer s = withChain ByTicks s (s .slots) (map closer (s .ticking))
 
 -- the clock set to a second, so many ticks into it
 abbrev pub clockAt : Clock → ℕ → ℕ → Clock
@@ -123,56 +125,114 @@ clockStep c =
     (cond (ltb (c .second) lastSecond) (clockAt c (suc (c .second)) 0) c))
     c
 
--- ---- what each call does where it is accepted: the state it leaves, its answer, the timers that fire, in order, and the list it was lent
+-- ---- what each call does where it is accepted: the state it leaves, its answer, and the timers that fire, in order
 
 pub record Effect : Type 0 where
   pub state : State
   pub answer : List ℕ
   pub fired : List Link
-  pub lent : List ℕ
 
 -- a call that fires nothing, with its answer. Calls with no answer named in document 01 answer 0.
 abbrev pub leaves : State → ℕ → Effect
-leaves s n = record { state = s; answer = n ∷ []; fired = []; lent = [] }
+leaves s n = record { state = s; answer = n ∷ []; fired = [] }
 
 -- The answer is the count.
-abbrev pub firing : State → List Link → List ℕ → Effect
-firing s links list = record { state = s; answer = length links ∷ []; fired = links; lent = list }
+abbrev pub firing : State → List Link → Effect
+firing s links = record { state = s; answer = length links ∷ []; fired = links }
 
 -- Those at zero fire in chain order; then, at the clock's new second, dated timers. Where the second did not go up none are due, since
 -- all dates are above it.
-abbrev pub ticked : State → List ℕ → Effect
-ticked s list =
+abbrev pub ticked : State → Effect
+ticked s =
     let near = nearer s in
     let clock = clockStep (s .clock) in
-    let later = reclock (fire ByTicks 0 near) clock in
-    firing (fire ByDate (clock .second) later) (due ByTicks 0 near ++ due ByDate (clock .second) later) list
+    let later = withClock (fire ByTicks 0 near) clock in
+    firing (fire ByDate (clock .second) later) (due ByTicks 0 near ++ due ByDate (clock .second) later)
 
 -- Set clock: seconds as given, word 4 to 0, clock set. Dated timers at or before the new second fire now. Interval timers don't change. A clock
 -- set back moves no date.
-abbrev pub clockMoved : State → ℕ → List ℕ → Effect
-clockMoved s second list =
-    let now = reclock s (clockAt (s .clock) second 0) in firing (fire ByDate second now) (due ByDate second now) list
+abbrev pub clockMoved : State → ℕ → Effect
+clockMoved s second =
+    let now = withClock s (clockAt (s .clock) second 0) in firing (fire ByDate second now) (due ByDate second now)
 
 -- Get clock gives the date and, in ticks, word 4.
 abbrev pub numbers : WallTime → ℕ → List ℕ
 numbers w ticks = w .year ∷ w .month ∷ w .day ∷ w .hour ∷ w .minute ∷ w .second ∷ ticks ∷ []
 
--- Create answers the id of the lowest free slot, which becomes kind 1; ident that of the lowest slot with the name. Delete: cancelled if waiting,
--- then the slot is free and all zero. Reset: start again with the stored interval, routine and data, as fire after would. Ticks left: 0 for any kind
--- but 4, which alone is in the interval chain.
+abbrev pub clockRead : State → Effect
+clockRead s = record { state = s; answer = numbers (dateOf (s .clock .second)) (s .clock .ticksInto); fired = [] }
+
+-- ---- the calls
+
+-- A call: its rules, in their order, from the words of the table and the state that they hold; and what it does where none applies.
+pub record Directive : Type 0 where
+  pub rules : List ℕ → State → List Refusal
+  pub does : State → Effect
+
+abbrev pub directive : Call → Directive
+-- 10, 8
+directive (layOut n t) = record {
+  rules = λ w s. when InvalidNumber (not (allOf (limits n t))) ∷ when InvalidSize (ltb (length w) (10 + 8 * n)) ∷ [];
+  does = λ s. leaves (laidOut n t) 0;
+}
+-- Answers the id of the lowest free slot, which becomes kind 1. 3, 5
+directive (create name) = record {
+  rules = λ w s. unsound w ∷ when InvalidName (eqb name 0) ∷ when TooMany (eqb (lowestFree s) 0) ∷ [];
+  does = λ s. leaves (stored s (lowestFree s) (neverStarted name)) (idBase + lowestFree s);
+}
+-- Id of the lowest slot with that name. 3
+directive (ident name) = record {
+  rules = λ w s. unsound w ∷ when InvalidName (eqb name 0) ∷ when InvalidName (eqb (lowestNamed s name) 0) ∷ [];
+  does = λ s. leaves s (idBase + lowestNamed s name);
+}
+directive (cancel id) = record {
+  rules = λ w s. unsound w ∷ noSuchId s id ∷ [];
+  does = λ s. leaves (stopped s (indexOf id) (idled (slotAt (s .slots) (indexOf id)))) 0;
+}
+-- Cancelled if waiting, then the slot is free and all zero.
+directive (delete id) = record {
+  rules = λ w s. unsound w ∷ noSuchId s id ∷ [];
+  does = λ s. leaves (stopped s (indexOf id) free) 0;
+}
+-- 10, 9, 4
+directive (fireAfter id n r u) = record {
+  rules = λ w s. unsound w ∷ when InvalidNumber (eqb n 0) ∷ when InvalidAddress (eqb r 0) ∷ noSuchId s id ∷ [];
+  does = λ s. leaves (started After s (indexOf id) n r u) 0;
+}
+-- 11, 9, 20, 4
+directive (fireWhen id d r u) = record {
+  rules = λ w s. unsound w ∷ when NotDefined (not (s .clock .isSet)) ∷ when InvalidAddress (eqb r 0) ∷ when InvalidClock (notAhead s d)
+      ∷ noSuchId s id ∷ [];
+  does = λ s. leaves (started When s (indexOf id) (secondsOf d) r u) 0;
+}
+-- Start again with the stored interval, routine and data, as fire after would. 4, 11
+directive (reset id) = record {
+  rules = λ w s. unsound w ∷ noSuchId s id ∷ when NotDefined (not (lastByTicks (slotAt (s .slots) (indexOf id) .kind))) ∷ [];
+  does = λ s.
+      let x = slotAt (s .slots) (indexOf id) in
+      leaves (started (lastMode (x .kind)) s (indexOf id) (x .interval) (x .routine) (x .userData)) 0;
+}
+-- For kind 4, which alone is in the interval chain; for any other kind 0.
+directive (ticksLeft id) = record {
+  rules = λ w s. unsound w ∷ noSuchId s id ∷ [];
+  does = λ s. leaves s (waitAt (indexOf id) (s .ticking));
+}
+directive (tick list) = record {
+  rules = λ w s. unsound w ∷ when ListTooShort (isShort s list) ∷ [];
+  does = λ s. ticked s;
+}
+directive (setClock d list) = record {
+  rules = λ w s. unsound w ∷ when ListTooShort (isShort s list) ∷ when InvalidClock (not (valid d)) ∷ [];
+  does = λ s. clockMoved s (secondsOf d);
+}
+directive getClock = record {
+  rules = λ w s. unsound w ∷ when NotDefined (not (s .clock .isSet)) ∷ [];
+  does = λ s. clockRead s;
+}
+
+-- a call's rules, and what it does
+abbrev pub refusals : List ℕ → State → Call → List Refusal
+refusals w s c = directive c .rules w s
+
 abbrev pub effect : State → Call → Effect
-effect s (layOut n t) = leaves (laidOut (s .room) n t) 0
-effect s (create name) = leaves (stored s (lowestFree s) (unused name)) (idBase + lowestFree s)
-effect s (ident name) = leaves s (idBase + lowestNamed s name)
-effect s (cancel id) = leaves (stopped s (indexOf id) (idled (slotAt (s .slots) (indexOf id)))) 0
-effect s (delete id) = leaves (stopped s (indexOf id) free) 0
-effect s (fireAfter id n r u) = leaves (started ByTicks s (indexOf id) n n r u) 0
-effect s (fireWhen id w r u) = leaves (started ByDate s (indexOf id) (secondsOf w) 0 r u) 0
-effect s (reset id) =
-    let x = slotAt (s .slots) (indexOf id) in
-    leaves (started ByTicks s (indexOf id) (x .interval) (x .interval) (x .routine) (x .userData)) 0
-effect s (ticksLeft id) = leaves s (waitAt (indexOf id) (s .ticking))
-effect s (tick list) = ticked s list
-effect s (setClock w list) = clockMoved s (secondsOf w) list
-effect s getClock = record { state = s; answer = numbers (dateOf (s .clock .second)) (s .clock .ticksInto); fired = []; lent = [] }
+effect s c = directive c .does s

@@ -1,32 +1,34 @@
 -- Document 01, "The words of demand 3": what a list of accepted calls means, with no table in sight.
--- `before` is a list of events read backwards, the latest first; `after` is in their order. Assumes nothing: these are definitions.
+-- A list of events is read backwards, the latest first. Assumes nothing: these are definitions.
 use Prim.Native.Nat.{ℕ, suc, _+_, _-_, _*_, min}
 use mathlib.Core.Bool.{Bool, true, false, cond, not, _&&_, _||_}
 use mathlib.Core.Option.{Option, none, some}
-use mathlib.Core.List.{List, [], _∷_, _++_}
+use mathlib.Core.List.{List, [], _∷_, _++_, map}
 use lib.Dec.{leb, eqb}
 use Rattle.calendar.specs.Calendar.{secondsOf, lastSecond}
 use Rattle.model.specs.Lists.{any, count}
 use Rattle.model.specs.Calls.{Call, layOut, create, ident, cancel, delete, fireAfter, fireWhen, reset, ticksLeft, tick, setClock, getClock}
-use Rattle.model.specs.Kinds.{Chain, ByTicks, ByDate}
+use Rattle.model.specs.Kinds.{Chain, Mode, After, When, chainFor, sameChain}
 use Rattle.model.specs.State.{Fired}
+use Rattle.model.specs.Directives.{intervalIn}
 
--- how a start is due: at the nth tick after it, or at a date
-pub data Due : Type 0 where
-  afterTicks : ℕ → Due
-  atDate : ℕ → Due
-
--- a start: the timer's id, when it is due, and what it lists when it fires
+-- a start: the timer's id, how it is started, for how many ticks or for which date, and what it lists when it fires
 pub record Start : Type 0 where
   pub id : ℕ
-  pub due : Due
+  pub mode : Mode
+  pub amount : ℕ
   pub routine : ℕ
   pub userData : ℕ
 
--- what an accepted call is to the timers: a start, or the end of one, of the timer `id`; `nothing` where it only looks, or creates
+abbrev pub startOf : ℕ → Mode → ℕ → ℕ → ℕ → Start
+startOf id mode amount routine userData = record { id = id; mode = mode; amount = amount; routine = routine; userData = userData }
+
+-- what an accepted call is to the timers: a start, or the end of one, of the timer `id`; the end of the timer itself; `nothing` where it only
+-- looks, or creates
 pub data Event : Type 0 where
   laidOutFor : ℕ → Event
   changes : ℕ → Option Start → Event
+  deletes : ℕ → Event
   oneTick : Event
   clockSetTo : ℕ → Event
   nothing : Event
@@ -35,19 +37,24 @@ pub data Event : Type 0 where
 abbrev pub startIn : Event → Option Start
 startIn (laidOutFor t) = none
 startIn (changes id s) = s
+startIn (deletes id) = none
 startIn oneTick = none
 startIn (clockSetTo d) = none
 startIn nothing = none
 
--- A reset takes its ticks, routine and data from that timer's last start before it: the last one under its id, since a timer with no start
--- since its create is not reset (11).
+-- A reset takes its ticks, routine and data from that timer's last start before it. A timer lasts from its create to its delete or a lay out.
 abbrev pub newer : ℕ → Option Start → Option Start → Option Start
 newer id none older = older
 newer id (some s) older = cond (eqb (s .id) id) (some s) older
 
 abbrev pub lastStart : ℕ → List Event → Option Start
 lastStart id [] = none
-lastStart id (e ∷ before) = newer id (startIn e) (lastStart id before)
+lastStart id (laidOutFor t ∷ before) = none
+lastStart id (changes i s ∷ before) = newer id s (lastStart id before)
+lastStart id (deletes i ∷ before) = cond (eqb i id) none (lastStart id before)
+lastStart id (oneTick ∷ before) = lastStart id before
+lastStart id (clockSetTo d ∷ before) = lastStart id before
+lastStart id (nothing ∷ before) = lastStart id before
 
 -- A start is an accepted fire after, fire when or reset.
 abbrev pub eventOf : List Event → Call → Event
@@ -55,9 +62,9 @@ eventOf before (layOut n t) = laidOutFor t
 eventOf before (create name) = nothing
 eventOf before (ident name) = nothing
 eventOf before (cancel id) = changes id none
-eventOf before (delete id) = changes id none
-eventOf before (fireAfter id n r u) = changes id (some (record { id = id; due = afterTicks n; routine = r; userData = u }))
-eventOf before (fireWhen id w r u) = changes id (some (record { id = id; due = atDate (secondsOf w); routine = r; userData = u }))
+eventOf before (delete id) = deletes id
+eventOf before (fireAfter id n r u) = changes id (some (startOf id After n r u))
+eventOf before (fireWhen id w r u) = changes id (some (startOf id When (secondsOf w) r u))
 eventOf before (reset id) = changes id (lastStart id before)
 eventOf before (ticksLeft id) = nothing
 eventOf before (tick list) = oneTick
@@ -65,9 +72,25 @@ eventOf before (setClock w list) = clockSetTo (secondsOf w)
 eventOf before getClock = nothing
 
 -- the events of accepted calls, made after the events `before`
-abbrev pub eventsFrom : List Event → List Call → List Event
-eventsFrom before [] = []
-eventsFrom before (c ∷ cs) = eventOf before c ∷ eventsFrom (eventOf before c ∷ before) cs
+abbrev pub eventsOn : List Event → List Call → List Event
+eventsOn before [] = before
+eventsOn before (c ∷ cs) = eventsOn (eventOf before c ∷ before) cs
+
+-- A timer lasts from its create to its delete or a lay out, each accepted: whether the one with this id does after a call with this answer, where
+-- it did before it or not.
+abbrev pub lastsAfter : Call → ℕ → ℕ → Bool → Bool
+lastsAfter (layOut n t) answer id before = false
+lastsAfter (create name) answer id before = eqb answer id || before
+lastsAfter (ident name) answer id before = before
+lastsAfter (cancel i) answer id before = before
+lastsAfter (delete i) answer id before = not (eqb i id) && before
+lastsAfter (fireAfter i n r u) answer id before = before
+lastsAfter (fireWhen i w r u) answer id before = before
+lastsAfter (reset i) answer id before = before
+lastsAfter (ticksLeft i) answer id before = before
+lastsAfter (tick list) answer id before = before
+lastsAfter (setClock w list) answer id before = before
+lastsAfter getClock answer id before = before
 
 -- ---- the clock
 
@@ -75,6 +98,7 @@ eventsFrom before (c ∷ cs) = eventOf before c ∷ eventsFrom (eventOf before c
 abbrev pub isTick : Event → Bool
 isTick (laidOutFor t) = false
 isTick (changes i s) = false
+isTick (deletes i) = false
 isTick oneTick = true
 isTick (clockSetTo d) = false
 isTick nothing = false
@@ -87,6 +111,7 @@ abbrev pub perSecond : List Event → ℕ
 perSecond [] = 0
 perSecond (laidOutFor t ∷ before) = t
 perSecond (changes i s ∷ before) = perSecond before
+perSecond (deletes i ∷ before) = perSecond before
 perSecond (oneTick ∷ before) = perSecond before
 perSecond (clockSetTo d ∷ before) = perSecond before
 perSecond (nothing ∷ before) = perSecond before
@@ -97,6 +122,7 @@ abbrev pub clockAfter : ℕ → List Event → Option ℕ
 clockAfter since [] = none
 clockAfter since (laidOutFor t ∷ before) = none
 clockAfter since (changes i s ∷ before) = clockAfter since before
+clockAfter since (deletes i ∷ before) = clockAfter since before
 clockAfter since (oneTick ∷ before) = clockAfter (suc since) before
 clockAfter since (clockSetTo d ∷ before) = some (min (d * perSecond before + since) (suc lastSecond * perSecond before - 1))
 clockAfter since (nothing ∷ before) = clockAfter since before
@@ -110,103 +136,101 @@ abbrev pub past : ℕ → List Event → Bool
 past date before = atLeast (date * perSecond before) (clockAfter 0 before)
 
 -- an accepted tick or set clock
-abbrev pub moves : Event → Bool
-moves (laidOutFor t) = false
-moves (changes i s) = false
-moves oneTick = true
-moves (clockSetTo d) = true
-moves nothing = false
-
--- some tick or set clock of `after` left the clock at or past the date
-abbrev pub reached : ℕ → List Event → List Event → Bool
-reached date before [] = false
-reached date before (e ∷ after) = (moves e && past date (e ∷ before)) || reached date (e ∷ before) after
+abbrev pub movesClock : Event → Bool
+movesClock (laidOutFor t) = false
+movesClock (changes i s) = false
+movesClock (deletes i) = false
+movesClock oneTick = true
+movesClock (clockSetTo d) = true
+movesClock nothing = false
 
 -- ---- starts
 
--- a start in its place: the events up to it, itself among them, the latest first; and those after it
+-- a start in its place: the events up to it, itself among them, and those after it
 pub record Placed : Type 0 where
   pub begun : Start
   pub before : List Event
   pub after : List Event
 
+-- the start, with one event more after it
+abbrev pub withEvent : Event → Placed → Placed
+withEvent e g = record { begun = g .begun; before = g .before; after = e ∷ g .after }
+
+abbrev pub placed : Option Start → List Event → List Placed
+placed none before = []
+placed (some s) before = record { begun = s; before = before; after = [] } ∷ []
+
+-- every start of the events, in order
+abbrev pub starts : List Event → List Placed
+starts [] = []
+starts (e ∷ before) = map (withEvent e) (starts before) ++ placed (startIn e) (e ∷ before)
+
 -- An accepted cancel, reset, new start or delete of that timer or an accepted lay out ends a start early.
 abbrev pub ends : ℕ → Event → Bool
 ends id (laidOutFor t) = true
 ends id (changes i s) = eqb i id
+ends id (deletes i) = eqb i id
 ends id oneTick = false
 ends id (clockSetTo d) = false
 ends id nothing = false
 
-abbrev pub placed : Option Start → List Event → List Event → List Placed
-placed none before after = []
-placed (some s) before after = record { begun = s; before = before; after = after } ∷ []
-
--- every start of the list, in order
-abbrev pub startsFrom : List Event → List Event → List Placed
-startsFrom before [] = []
-startsFrom before (e ∷ after) = placed (startIn e) (e ∷ before) after ++ startsFrom (e ∷ before) after
-
-abbrev pub starts : List Event → List Placed
-starts es = startsFrom [] es
-
--- A start for n ticks is due at the nth accepted tick after it; a start by date in the first accepted tick or set clock after it
--- that leaves the clock at or past the date.
-abbrev pub dueWithin : Due → List Event → List Event → Bool
-dueWithin (afterTicks n) before after = leb n (ticks after)
-dueWithin (atDate d) before after = reached d before after
-
--- it was due, and it was ended, in what came after it
-abbrev pub wasDue : Placed → Bool
-wasDue g = dueWithin (g .begun .due) (g .before) (g .after)
-
 abbrev pub wasEnded : Placed → Bool
 wasEnded g = any (ends (g .begun .id)) (g .after)
+
+-- A start for n ticks is due at the nth accepted tick after it; a start by date in the first accepted tick or set clock after it
+-- that leaves the clock at or past the date. (It is due in the event e, which comes after `after`; the first, since it ends there.)
+abbrev pub dueIn : Mode → ℕ → Event → List Event → List Event → Bool
+dueIn After n e before after = isTick e && eqb (suc (ticks after)) n
+dueIn When d e before after = movesClock e && past d (e ∷ after ++ before)
+
+abbrev pub isDue : Event → Placed → Bool
+isDue e g = dueIn (g .begun .mode) (g .begun .amount) e (g .before) (g .after)
+
+-- it was due in one of the events after it
+abbrev pub wasDueIn : Start → List Event → List Event → Bool
+wasDueIn s before [] = false
+wasDueIn s before (e ∷ after) = dueIn (s .mode) (s .amount) e before after || wasDueIn s before after
+
+abbrev pub wasDue : Placed → Bool
+wasDue g = wasDueIn (g .begun) (g .before) (g .after)
 
 -- Until it ends the timer is waiting, and at no other time.
 abbrev pub waits : Placed → Bool
 waits g = not (wasEnded g) && not (wasDue g)
 
--- the start, with one event more after it
-abbrev pub also : Event → Placed → Placed
-also e g = record { begun = g .begun; before = g .before; after = g .after ++ (e ∷ []) }
-
--- it fires in the event e, next after all that follow it: not ended before, and due in e and not earlier
+-- it fires in the event e, next after all that follow it: it waits, and is due in e
 abbrev pub fires : Event → Placed → Bool
-fires e g = waits g && wasDue (also e g)
+fires e g = waits g && isDue e g
 
 -- ---- firing order
 
--- Interval timers by the tick at which they are due, dated ones by date.
-abbrev pub dueNumber : Due → ℕ → ℕ
-dueNumber (afterTicks n) ticksBefore = ticksBefore + n
-dueNumber (atDate d) ticksBefore = d
-
-abbrev pub dueAt : Placed → ℕ
-dueAt g = dueNumber (g .begun .due) (ticks (g .before))
-
 -- the chain in which a start waits
-abbrev pub isFor : Chain → Due → Bool
-isFor ByTicks (afterTicks n) = true
-isFor ByTicks (atDate d) = false
-isFor ByDate (afterTicks n) = false
-isFor ByDate (atDate d) = true
-
 abbrev pub inChain : Chain → Placed → Bool
-inChain k g = isFor k (g .begun .due)
+inChain k g = sameChain k (chainFor (g .begun .mode))
+
+-- Interval timers by the tick at which they are due, which is by ticks left; dated ones by date.
+abbrev pub remaining : Mode → ℕ → ℕ → ℕ
+remaining After n ticksAfter = n - ticksAfter
+remaining When d ticksAfter = d
+
+abbrev pub ticksLeftOrDate : Placed → ℕ
+ticksLeftOrDate g = remaining (g .begun .mode) (g .begun .amount) (ticks (g .after))
 
 -- each as id, then routine and data of its start
 abbrev pub entry : Placed → Fired
 entry g = record { id = g .begun .id; routine = g .begun .routine; userData = g .begun .userData }
 
--- what a waiting start shows: its entry, and its ticks left or its date
+-- what a waiting start shows: its entry, how it was started, its interval, and its ticks left or its date
 pub record Waiting : Type 0 where
   pub shows : Fired
+  pub mode : Option Mode
+  pub interval : ℕ
   pub wait : ℕ
 
-abbrev pub remaining : Due → ℕ → ℕ
-remaining (afterTicks n) ticksAfter = n - ticksAfter
-remaining (atDate d) ticksAfter = d
-
 abbrev pub waiting : Placed → Waiting
-waiting g = record { shows = entry g; wait = remaining (g .begun .due) (ticks (g .after)) }
+waiting g = record {
+  shows = entry g;
+  mode = some (g .begun .mode);
+  interval = intervalIn (chainFor (g .begun .mode)) (g .begun .amount);
+  wait = ticksLeftOrDate g;
+}

@@ -1,30 +1,83 @@
--- Document 01, "Kinds", and the two chains in which timers wait. Assumes nothing: these are definitions.
+-- Document 01, "Kinds", and the chains in which timers wait. Assumes nothing: these are definitions.
 use Prim.Native.Nat.{ℕ}
-use mathlib.Core.Bool.{Bool, cond, _||_}
-use lib.Dec.{eqb}
+use mathlib.Core.Bool.{Bool, true, false}
+use mathlib.Core.Option.{Option, none, some}
+use mathlib.Core.List.{List, [], _∷_}
+use lib.ListN.{getD}
 pub use Rattle.model.specs.declared.Chain.{Chain}
 pub use Rattle.model.specs.declared.Chain.the-variants.{ByTicks, ByDate}
+pub use Rattle.model.specs.declared.Mode.{Mode}
+pub use Rattle.model.specs.declared.Mode.the-variants.{After, When}
 
--- 0 free; 1 never started; 2 idle, last started by interval; 3 idle, last started by date; 4 waiting for ticks; 5 waiting for a date.
--- There are two chains, the interval chain and the dated chain.
+-- what a kind says of a timer: the chain that it is in, if any; its kind when it stops, and when it fires; how it was last started, if it was
+pub record Kind : Type 0 where
+  pub chain : Option Chain
+  pub whenStopped : ℕ
+  pub whenFired : ℕ
+  pub last : Option Mode
 
--- the kind of a timer that waits in a chain, and of one that is idle after it
-abbrev pub waitingKind : Chain → ℕ
-waitingKind ByTicks = 4
-waitingKind ByDate = 5
+abbrev pub kindEntry : Option Chain → ℕ → ℕ → Option Mode → Kind
+kindEntry chain stopped fired last = record { chain = chain; whenStopped = stopped; whenFired = fired; last = last }
 
-abbrev pub idleKind : Chain → ℕ
-idleKind ByTicks = 2
-idleKind ByDate = 3
+-- the kinds from 0 on
+abbrev pub kinds : List Kind
+kinds =
+    -- 0 free; 1 never started
+    kindEntry none 0 0 none ∷ kindEntry none 1 1 none
+    -- 2 idle, last started by interval; 3 idle, last started by date
+    ∷ kindEntry none 2 2 (some After) ∷ kindEntry none 3 3 (some When)
+    -- 4 waiting for ticks; 5 waiting for a date
+    ∷ kindEntry (some ByTicks) 2 2 (some After) ∷ kindEntry (some ByDate) 3 3 (some When)
+    ∷ []
 
--- the kind is of a timer that waits in this chain
+-- what a kind says; a number that is no kind is in no chain and stays
+abbrev pub kindAt : ℕ → Kind
+kindAt kind = getD kinds kind (kindEntry none kind kind none)
+
+-- the chain in which a start waits, and the kind that it gives
+abbrev pub chainFor : Mode → Chain
+chainFor After = ByTicks
+chainFor When = ByDate
+
+abbrev pub waitingKind : Mode → ℕ
+waitingKind After = 4
+waitingKind When = 5
+
+-- the two chains are the same
+abbrev pub sameChain : Chain → Chain → Bool
+sameChain ByTicks ByTicks = true
+sameChain ByTicks ByDate = false
+sameChain ByDate ByTicks = false
+sameChain ByDate ByDate = true
+
+-- the kind is of a timer in this chain
+abbrev pub isIn : Chain → Option Chain → Bool
+isIn k none = false
+isIn k (some j) = sameChain k j
+
 abbrev pub waitsIn : Chain → ℕ → Bool
-waitsIn k kind = eqb kind (waitingKind k)
+waitsIn k kind = isIn k (kindAt kind .chain)
 
--- the kind is 2 or 4
+-- it is of a timer in some chain
+abbrev pub isSome : Option Chain → Bool
+isSome none = false
+isSome (some j) = true
+
+abbrev pub linked : ℕ → Bool
+linked kind = isSome (kindAt kind .chain)
+
+-- the timer was last started by interval
+abbrev pub byTicks : Option Mode → Bool
+byTicks none = false
+byTicks (some m) = sameChain ByTicks (chainFor m)
+
 abbrev pub lastByTicks : ℕ → Bool
-lastByTicks kind = eqb kind (idleKind ByTicks) || eqb kind (waitingKind ByTicks)
+lastByTicks kind = byTicks (kindAt kind .last)
 
--- a waiting timer becomes idle of its own kind, any other stays as it is
-abbrev pub idleOf : ℕ → ℕ
-idleOf kind = cond (waitsIn ByTicks kind) (idleKind ByTicks) (cond (waitsIn ByDate kind) (idleKind ByDate) kind)
+-- how it was last started, where it was
+abbrev pub modeOrAfter : Option Mode → Mode
+modeOrAfter none = After
+modeOrAfter (some m) = m
+
+abbrev pub lastMode : ℕ → Mode
+lastMode kind = modeOrAfter (kindAt kind .last)

@@ -3,9 +3,9 @@ pub mod Status
 pub mod Calls
 pub mod Kinds
 pub mod State
-pub mod Directives
 pub mod Words
 pub mod Sound
+pub mod Directives
 pub mod Outcome
 pub mod History
 pub mod Demand

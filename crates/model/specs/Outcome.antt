@@ -1,16 +1,15 @@
 -- Every call on the words of a lent table, and of a lent fired list: status, answer, new table, new list, for all inputs.
 -- Assumes nothing: these are definitions.
 use Prim.Native.Nat.{ℕ}
-use mathlib.Core.Bool.{cond, not}
+use mathlib.Core.Bool.{cond}
 use mathlib.Core.List.{List, [], _∷_, _++_, map}
-use lib.ListN.{length, drop, replicate}
+use lib.ListN.{length, take, drop, replicate}
 use lib.Dec.{eqb}
 use Rattle.model.specs.Status.{firstOf}
-use Rattle.model.specs.Calls.{Call}
+use Rattle.model.specs.Calls.{Call, lentTo, answerCount}
 use Rattle.model.specs.State.{Fired, listed}
 use Rattle.model.specs.Directives.{refusals, effect}
-use Rattle.model.specs.Words.{over, read}
-use Rattle.model.specs.Sound.{sound}
+use Rattle.model.specs.Words.{writtenOver, read}
 
 -- what comes of a call
 pub record Outcome : Type 0 where
@@ -19,14 +18,17 @@ pub record Outcome : Type 0 where
   pub table : List ℕ
   pub list : List ℕ
 
+-- the outcome with this status, answer, table and list
+abbrev pub outcomeOf : ℕ → List ℕ → List ℕ → List ℕ → Outcome
+outcomeOf status answer table list = record { status = status; answer = answer; table = table; list = list }
+
 -- Each number is given exactly when its rule says so, the first rule that applies; 0 when none does.
 unfoldable pub statusOn : List ℕ → Call → ℕ
-statusOn t c = firstOf (refusals (not (sound t)) (read t) c)
+statusOn t c = firstOf (refusals t (read t) c)
 
 -- Each refusal answers 0 besides (get clock: seven zeros) and leaves table and list alike untouched.
 abbrev pub refused : ℕ → List ℕ → Call → Outcome
-refused status t c =
-    let e = effect (read t) c in record { status = status; answer = replicate (length (e .answer)) 0; table = t; list = e .lent }
+refused status t c = outcomeOf status (replicate (answerCount c) 0) t (lentTo c)
 
 -- The fired list takes three words each: id, routine, user data; words after those written stay.
 abbrev pub entryWords : List Fired → List ℕ
@@ -40,7 +42,7 @@ written fs list = entryWords fs ++ drop (length (entryWords fs)) list
 abbrev pub accepted : List ℕ → Call → Outcome
 accepted t c =
     let e = effect (read t) c in
-    record { status = 0; answer = e .answer; table = over (e .state) t; list = written (map (listed (read t .slots)) (e .fired)) (e .lent) }
+    outcomeOf 0 (e .answer) (writtenOver (e .state) t) (written (map (listed (read t .slots)) (e .fired)) (lentTo c))
 
 -- Accepted means status 0; any other status is a refusal.
 unfoldable pub outcome : List ℕ → Call → Outcome

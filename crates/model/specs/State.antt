@@ -29,9 +29,7 @@ pub record Clock : Type 0 where
   pub second : ℕ
   pub ticksInto : ℕ
 
--- `room` is the number of words of the slice
 pub record State : Type 0 where
-  pub room : ℕ
   pub slots : List Slot
   pub clock : Clock
   pub ticking : List Link
@@ -43,12 +41,12 @@ chainOf ByTicks s = s .ticking
 chainOf ByDate s = s .dated
 
 -- the state with other slots and another chain; with another clock
-abbrev pub rechain : Chain → State → List Slot → List Link → State
-rechain ByTicks s slots links = record { room = s .room; slots = slots; clock = s .clock; ticking = links; dated = s .dated }
-rechain ByDate s slots links = record { room = s .room; slots = slots; clock = s .clock; ticking = s .ticking; dated = links }
+abbrev pub withChain : Chain → State → List Slot → List Link → State
+withChain ByTicks s slots links = record { slots = slots; clock = s .clock; ticking = links; dated = s .dated }
+withChain ByDate s slots links = record { slots = slots; clock = s .clock; ticking = s .ticking; dated = links }
 
-abbrev pub reclock : State → Clock → State
-reclock s clock = record { room = s .room; slots = s .slots; clock = clock; ticking = s .ticking; dated = s .dated }
+abbrev pub withClock : State → Clock → State
+withClock s clock = record { slots = s .slots; clock = clock; ticking = s .ticking; dated = s .dated }
 
 -- Kind 0: every other word zero.
 abbrev pub free : Slot

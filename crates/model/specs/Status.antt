@@ -18,16 +18,16 @@ numberOf InvalidClock = 20
 numberOf NotSound = 100
 numberOf ListTooShort = 101
 
--- a rule of the table of status numbers: a number, and whether it applies
+-- a rule of the table of status numbers: a status, and whether it applies
 pub record Refusal : Type 0 where
-  pub number : ℕ
+  pub status : Status
   pub given : Bool
 
 -- this status is given where that test holds
 abbrev pub when : Status → Bool → Refusal
-when status b = record { number = numberOf status; given = b }
+when status b = record { status = status; given = b }
 
 -- The rules are tried in their order; the status is 0 where none applies.
 abbrev pub firstOf : List Refusal → ℕ
 firstOf [] = 0
-firstOf (r ∷ rs) = cond (r .given) (r .number) (firstOf rs)
+firstOf (r ∷ rs) = cond (r .given) (numberOf (r .status)) (firstOf rs)

@@ -39,11 +39,14 @@ abbrev pub waitIn : Chain → ℕ → List Link → ℕ → ℕ
 waitIn k b [] i = 0
 waitIn k b (w ∷ ws) i = cond (eqb (w .slot) i) (difference k b (w .wait)) (waitIn k (w .wait) ws i)
 
--- a slot is in one of the chains at most, so that one of each two numbers is 0
+-- a number that each chain gives to a slot, added: a slot is in one of the chains at most, so that all but one are 0
+abbrev pub sumOf : (Chain → List Link → ℕ) → State → ℕ
+sumOf f s = f ByTicks (s .ticking) + f ByDate (s .dated)
+
 abbrev pub slotWords : State → ℕ → Slot → List ℕ → List ℕ
 slotWords s i x rest =
-    x .kind ∷ x .name ∷ x .interval ∷ (waitIn ByTicks 0 (s .ticking) i + waitIn ByDate 0 (s .dated) i) ∷ x .routine ∷ x .userData
-    ∷ (nextIn (s .ticking) i + nextIn (s .dated) i) ∷ (previousIn 0 (s .ticking) i + previousIn 0 (s .dated) i) ∷ rest
+    x .kind ∷ x .name ∷ x .interval ∷ sumOf (λ k c. waitIn k 0 c i) s ∷ x .routine ∷ x .userData
+    ∷ sumOf (λ k c. nextIn c i) s ∷ sumOf (λ k c. previousIn 0 c i) s ∷ rest
 
 abbrev pub allSlots : State → ℕ → List Slot → List ℕ → List ℕ
 allSlots s i [] rest = rest
@@ -56,8 +59,8 @@ write s rest =
     ∷ first (s .ticking) ∷ first (s .dated) ∷ 0 ∷ 0 ∷ 0 ∷ allSlots s 1 (s .slots) rest
 
 -- the words of a state at the front of a slice. Words past 10 + 8N are never changed.
-abbrev pub over : State → List ℕ → List ℕ
-over s t = write s (drop (10 + 8 * length (s .slots)) t)
+abbrev pub writtenOver : State → List ℕ → List ℕ
+writtenOver s t = write s (drop (10 + 8 * length (s .slots)) t)
 
 -- ---- reading
 
@@ -66,7 +69,54 @@ abbrev pub word : List ℕ → ℕ → ℕ
 word t m = getD t m 0
 
 abbrev pub field : List ℕ → ℕ → ℕ → ℕ
-field t f i = getD t (2 + 8 * i + f) 0
+field t i f = getD t (2 + 8 * i + f) 0
+
+-- the words of the header, by their names
+abbrev pub slotCount : List ℕ → ℕ
+slotCount t = getD t 0 0
+
+abbrev pub ticksPerSecond : List ℕ → ℕ
+ticksPerSecond t = getD t 1 0
+
+abbrev pub clockSet : List ℕ → ℕ
+clockSet t = getD t 2 0
+
+abbrev pub seconds : List ℕ → ℕ
+seconds t = getD t 3 0
+
+abbrev pub ticksInto : List ℕ → ℕ
+ticksInto t = getD t 4 0
+
+abbrev pub firstTicking : List ℕ → ℕ
+firstTicking t = getD t 5 0
+
+abbrev pub firstDated : List ℕ → ℕ
+firstDated t = getD t 6 0
+
+-- the words of slot i, by their names
+abbrev pub kindOf : List ℕ → ℕ → ℕ
+kindOf t i = field t i 0
+
+abbrev pub nameOf : List ℕ → ℕ → ℕ
+nameOf t i = field t i 1
+
+abbrev pub intervalOf : List ℕ → ℕ → ℕ
+intervalOf t i = field t i 2
+
+abbrev pub waitOf : List ℕ → ℕ → ℕ
+waitOf t i = field t i 3
+
+abbrev pub routineOf : List ℕ → ℕ → ℕ
+routineOf t i = field t i 4
+
+abbrev pub dataOf : List ℕ → ℕ → ℕ
+dataOf t i = field t i 5
+
+abbrev pub nextOf : List ℕ → ℕ → ℕ
+nextOf t i = field t i 6
+
+abbrev pub previousOf : List ℕ → ℕ → ℕ
+previousOf t i = field t i 7
 
 -- the word that holds the first slot of a chain
 abbrev pub headWord : Chain → ℕ
@@ -80,24 +130,24 @@ along next (suc fuel) zero = []
 along next (suc fuel) (suc i) = suc i ∷ along next fuel (next (suc i))
 
 -- A timer's ticks left are found by adding its word and those of every slot before it.
-abbrev pub total : Chain → ℕ → ℕ → ℕ
-total ByTicks before wait = before + wait
-total ByDate before wait = wait
+abbrev pub accumulated : Chain → ℕ → ℕ → ℕ
+accumulated ByTicks before wait = before + wait
+accumulated ByDate before wait = wait
 
 -- the links of chain k from slot i on, at most `fuel` of them, behind a slot with that wait
 abbrev pub linksFrom : Chain → List ℕ → ℕ → ℕ → ℕ → List Link
 linksFrom k t zero before i = []
 linksFrom k t (suc fuel) before zero = []
 linksFrom k t (suc fuel) before (suc i) =
-    let wait = total k before (field t 3 (suc i)) in record { slot = suc i; wait = wait } ∷ linksFrom k t fuel wait (field t 6 (suc i))
+    let wait = accumulated k before (waitOf t (suc i)) in record { slot = suc i; wait = wait } ∷ linksFrom k t fuel wait (nextOf t (suc i))
 
 -- The chain, followed by next from word 5 or 6.
 abbrev pub links : Chain → List ℕ → List Link
-links k t = linksFrom k t (word t 0) 0 (word t (headWord k))
+links k t = linksFrom k t (slotCount t) 0 (word t (headWord k))
 
 -- slot i
 abbrev pub slotFrom : List ℕ → ℕ → Slot
-slotFrom t i = record { kind = field t 0 i; name = field t 1 i; interval = field t 2 i; routine = field t 4 i; userData = field t 5 i }
+slotFrom t i = record { kind = kindOf t i; name = nameOf t i; interval = intervalOf t i; routine = routineOf t i; userData = dataOf t i }
 
 -- n slots from i on
 abbrev pub slotsFrom : List ℕ → ℕ → ℕ → List Slot
@@ -107,5 +157,5 @@ slotsFrom t i (suc n) = slotFrom t i ∷ slotsFrom t (suc i) n
 -- the state that a table's words hold
 abbrev pub read : List ℕ → State
 read t =
-    let clock : Clock = record { perSecond = word t 1; isSet = eqb (word t 2) 1; second = word t 3; ticksInto = word t 4 } in
-    record { room = length t; slots = slotsFrom t 1 (word t 0); clock = clock; ticking = links ByTicks t; dated = links ByDate t }
+    let clock : Clock = record { perSecond = ticksPerSecond t; isSet = eqb (clockSet t) 1; second = seconds t; ticksInto = ticksInto t } in
+    record { slots = slotsFrom t 1 (slotCount t); clock = clock; ticking = links ByTicks t; dated = links ByDate t }

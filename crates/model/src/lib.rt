@@ -1,10 +1,16 @@
-// The timer manager as definitions, and demand 3 proved about them: see specs/ and proofs/. No function is here, only the two types that
+// The timer manager as definitions, and demand 3 proved about them: see specs/ and proofs/. No function is here, only the types that
 // the definitions share with the code.
 
 // The chain of the timers that wait for ticks, and of those that wait for a date.
 pub enum Chain {
     ByTicks,
     ByDate,
+}
+
+// How a timer is started: fire after, fire when.
+pub enum Mode {
+    After,
+    When,
 }
 
 // Why a call is refused: RTEMS's names, and two of our own. specs/Status.antt has their numbers.

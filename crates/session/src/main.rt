@@ -1,6 +1,8 @@
 // The session of document 01: two timers of a table of three wait for five ticks each, and fire together at the fifth. Prints one line a call:
 // status, a space, answer, both in decimal.
-use timer::Answer;
+use answers::Answer;
+use answers::number_in;
+use answers::status_of;
 
 const SLOTS: u32 = 3;
 
@@ -11,26 +13,14 @@ const TABLE: usize = 34;
 
 const LIST: usize = 9;
 
-// Prints a line.
-fn print(status: u32, number: u32) {
-    io::print_decimal(libc::STDOUT_FILENO, status as u64);
+// Prints the line of an answer, and gives its number.
+fn line(answer: Answer) -> u32 {
+    let number = number_in(answer);
+    io::print_decimal(libc::STDOUT_FILENO, status_of(answer) as u64);
     io::write_all(libc::STDOUT_FILENO, b" ");
     io::print_decimal(libc::STDOUT_FILENO, number as u64);
     io::write_all(libc::STDOUT_FILENO, b"\n");
-}
-
-// Prints the line of an answer, and gives its number.
-fn line(answer: Answer) -> u32 {
-    match answer {
-        Answer::Done(number) => {
-            print(status::SUCCESSFUL, number);
-            number
-        }
-        Answer::Refused(refusal) => {
-            print(status::number_of(refusal), 0);
-            0
-        }
-    }
+    number
 }
 
 // The two timers start: for 5 ticks each.
@@ -38,17 +28,17 @@ fn start_both(table: &mut [u32]) {
     line(timer::lay_out(table, SLOTS, TICKS_PER_SECOND));
     let first = line(timer::create(table, 1));
     let second = line(timer::create(table, 2));
-    line(timer::fire_after(table, first, 5, 7, 70));
-    line(timer::fire_after(table, second, 5, 8, 80));
+    line(starts::fire_after(table, first, 5, 7, 70));
+    line(starts::fire_after(table, second, 5, 8, 80));
 }
 
 fn main() {
     let mut table = [0u32; TABLE];
     let mut fired = [0u32; LIST];
     start_both(&mut table);
-    line(timer::tick(&mut table, &mut fired));
-    line(timer::tick(&mut table, &mut fired));
-    line(timer::tick(&mut table, &mut fired));
-    line(timer::tick(&mut table, &mut fired));
-    line(timer::tick(&mut table, &mut fired));
+    line(clock::tick(&mut table, &mut fired));
+    line(clock::tick(&mut table, &mut fired));
+    line(clock::tick(&mut table, &mut fired));
+    line(clock::tick(&mut table, &mut fired));
+    line(clock::tick(&mut table, &mut fired));
 }

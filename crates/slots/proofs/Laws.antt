@@ -12,53 +12,51 @@ use lib.Dec.{eqb}
 use borrow.Author.Tests.{eq-eqb, ne-eqb}
 use Rattle.model.specs.State.{Slot, slotAt, lowest, idBase, indexOf, names}
 use Rattle.model.specs.Directives.{lowestFree, lowestNamed}
-use Rattle.model.specs.Words.{word, field, read, slotFrom, slotsFrom}
+use Rattle.model.specs.Words.{field, read, slotFrom, slotsFrom, slotCount, kindOf}
 use Rattle.model.proofs.ListLaws.{cases}
 use Rattle.model.proofs.ReadBack.{slots-length, slot-read}
-use Rattle.model.proofs.Refused.{Named, named, named-true}
-use Rattle.slots.specs.Search.{lowestWith, namedSlot}
+use Rattle.model.proofs.AcceptedCalls.{Named, named, named-true}
+use Rattle.slots.specs.Search.{lowestWith, lowestIn, namedSlot}
 
 -- ---- the lowest slot
 
 module _ (t : List ℕ) where
   -- by the part of a slot that word f spells
-  lowest-by : (part : Slot → ℕ) (f : ℕ) → ((i : ℕ) → part (slotFrom t i) ≡ field t f i) → (v i m : ℕ)
+  lowest-by : (part : Slot → ℕ) (f : ℕ) → ((i : ℕ) → part (slotFrom t i) ≡ field t i f) → (v i m : ℕ)
       → lowest (λ x. eqb (part x) v) i (slotsFrom t i m) ≡ lowestWith t f v i m
   unfolding lowestWith
   lowest-by part f is v i zero = refl
   lowest-by part f is v i (suc m) = ap₂ (λ (w n : ℕ). cond (eqb w v) i n) (is i) (lowest-by part f is v (suc i) m)
 
-  pub free-found : lowestFree (read t) ≡ lowestWith t 0 0 1 (word t 0)
-  free-found = lowest-by (λ x. x .kind) 0 (λ i. refl) 0 1 (word t 0)
+  -- of all slots
+  whole : (f v : ℕ) → lowestWith t f v 1 (slotCount t) ≡ lowestIn t f v 1 (slotCount t)
+  unfolding lowestIn
+  whole f v = ap (lowestWith t f v 1) (let z : slotCount t ≡ suc (slotCount t) - 1 = omega arith in z)
 
-  pub name-found : (name : ℕ) → lowestNamed (read t) name ≡ lowestWith t 1 name 1 (word t 0)
-  name-found name = lowest-by (λ x. x .name) 1 (λ i. refl) name 1 (word t 0)
+  pub free-found : lowestFree (read t) ≡ lowestIn t 0 0 1 (slotCount t)
+  free-found = lowest-by (λ x. x .kind) 0 (λ i. refl) 0 1 (slotCount t) ∙ whole 0 0
 
-  -- what the loop has yet to look at
-  module _ (f v n i : ℕ) (in-loop : i ≤ n) where
-    left : n + 1 - i ≡ suc (n + 1 - (i + 1))
-    left = omega arith
+  pub name-found : (name : ℕ) → lowestNamed (read t) name ≡ lowestIn t 1 name 1 (slotCount t)
+  name-found name = lowest-by (λ x. x .name) 1 (λ i. refl) name 1 (slotCount t) ∙ whole 1 name
 
-    pub find-here : field t f i ≡ v → lowestWith t f v i (n + 1 - i) ≡ i
-    unfolding lowestWith
-    find-here e =
-        ap (lowestWith t f v i) left ∙ ap (λ (b : Bool). cond b i (lowestWith t f v (suc i) (n + 1 - (i + 1)))) (eq-eqb (field t f i) v e)
+  -- what the loop has yet to look at, up to slot n
+  module _ (f v n i : ℕ) where
+    pub find-none : n < i → lowestIn t f v i n ≡ 0
+    unfolding lowestIn lowestWith
+    find-none h = ap (lowestWith t f v i) (let z : suc n - i ≡ 0 = omega arith in z)
 
-    pub find-on : (field t f i ≡ v → ⊥) → lowestWith t f v i (n + 1 - i) ≡ lowestWith t f v (i + 1) (n + 1 - (i + 1))
-    unfolding lowestWith
-    find-on e =
-        ap (lowestWith t f v i) left ∙ ap (λ (b : Bool). cond b i (lowestWith t f v (suc i) (n + 1 - (i + 1)))) (ne-eqb (field t f i) v e)
-        ∙ ap (λ (k : ℕ). lowestWith t f v k (n + 1 - (i + 1))) (sym (add-one i))
+    module _ (in-loop : i ≤ n) where
+      opened : lowestIn t f v i n ≡ cond (eqb (field t i f) v) i (lowestIn t f v (i + 1) n)
+      unfolding lowestIn lowestWith
+      opened =
+          ap (lowestWith t f v i) (let z : suc n - i ≡ suc (suc n - (i + 1)) = omega arith in z)
+          ∙ ap (λ (k : ℕ). cond (eqb (field t i f) v) i (lowestWith t f v k (suc n - (i + 1)))) (sym (add-one i))
 
-  pub find-start : (f v n : ℕ) → lowestWith t f v 1 n ≡ lowestWith t f v 1 (n + 1 - 1)
-  find-start f v n = ap (lowestWith t f v 1) (let z : n ≡ n + 1 - 1 = omega arith in z)
+      pub find-here : field t i f ≡ v → lowestIn t f v i n ≡ i
+      find-here e = opened ∙ rw (eq-eqb (field t i f) v e)
 
-  pub find-none : (f v n i : ℕ) → n < i → lowestWith t f v i (n + 1 - i) ≡ 0
-  unfolding lowestWith
-  find-none f v n i h = ap (lowestWith t f v i) (let z : n + 1 - i ≡ 0 = omega arith in z) ∙ none i
-    where
-      none : (i : ℕ) → lowestWith t f v i 0 ≡ 0
-      none i = refl
+      pub find-on : (field t i f ≡ v → ⊥) → lowestIn t f v i n ≡ lowestIn t f v (i + 1) n
+      find-on e = opened ∙ rw (ne-eqb (field t i f) v e)
 
 -- ---- ids
 
@@ -70,17 +68,17 @@ module _ (t : List ℕ) (id : ℕ) where
   pub id-low : id ≤ idBase → 0 ≡ namedSlot t id
   id-low h = not-named (λ n. omega (arith, n .low, n .is))
 
-  pub id-high : word t 0 < id - idBase → 0 ≡ namedSlot t id
+  pub id-high : slotCount t < id - idBase → 0 ≡ namedSlot t id
   id-high h = not-named (λ n. omega (arith, n .high, slots-length t))
 
-  module _ (above : idBase < id) (within : id - idBase ≤ word t 0) where
-    kind-is : slotAt (read t .slots) (id - idBase) .kind ≡ field t 0 (id - idBase)
+  module _ (above : idBase < id) (within : id - idBase ≤ slotCount t) where
+    kind-is : slotAt (read t .slots) (id - idBase) .kind ≡ kindOf t (id - idBase)
     kind-is = ap (λ (x : Slot). x .kind) (slot-read t (id - idBase) (omega arith) within)
 
-    pub id-free : field t 0 (id - idBase) ≡ 0 → 0 ≡ namedSlot t id
+    pub id-free : kindOf t (id - idBase) ≡ 0 → 0 ≡ namedSlot t id
     id-free e = not-named (λ n. n .alive (kind-is ∙ e))
 
-    pub id-names : (field t 0 (id - idBase) ≡ 0 → ⊥) → id - idBase ≡ namedSlot t id
+    pub id-names : (kindOf t (id - idBase) ≡ 0 → ⊥) → id - idBase ≡ namedSlot t id
     unfolding namedSlot
     id-names e =
         sym (ap (λ (b : Bool). cond b (indexOf id) 0)
@@ -91,7 +89,7 @@ module _ (t : List ℕ) (id : ℕ) where
     pub names-one : names (read t) id ≡ true
     pub index : i ≡ indexOf id
     pub low : 1 ≤ i
-    pub high : i ≤ word t 0
+    pub high : i ≤ slotCount t
 
   pub named-some : (i : ℕ) → i ≡ namedSlot t id → (i ≡ 0 → ⊥) → IsNamed i
   unfolding namedSlot

@@ -4,9 +4,9 @@ ghost use mathlib.Core.Bool.{true};
 ghost use mathlib.Core.List.{_++_};
 ghost use Prim.Native.Nat.{_<_, _≤_};
 ghost use lib.ListN.{length, drop, replicate};
-ghost use Rattle.model.specs.Words.{word};
+ghost use Rattle.model.specs.Words.{word, slotCount};
 ghost use Rattle.model.specs.Sound.{sound};
-ghost use Rattle.slots.specs.Search.{lowestWith, namedSlot};
+ghost use Rattle.slots.specs.Search.{lowestIn, namedSlot};
 use table::FREE;
 use table::KIND;
 use table::SLOT_COUNT;
@@ -15,14 +15,13 @@ use table::get;
 // An id is this plus the slot's index.
 pub const ID_BASE: u32 = 0x12010000;
 
-// The lowest slot of a sound table whose word f is v; 0 if there is none.
-pub fn find(t: &[u32], f: usize, v: u32) -> u32
-    requires { ⌜ (sound (now t) ≡ true) × (f < 8) ⌝ }
-    ensures { λ r. ⌜ r ≡ lowestWith (now (t .entry)) f v 1 (word (now (t .entry)) 0) ⌝ }
+// The lowest slot of a sound table, of those from `from` to `to`, whose word f is v; 0 if there is none.
+pub fn find(t: &[u32], f: usize, v: u32, from: u32, to: u32) -> u32
+    requires { ⌜ (sound (now t) ≡ true) × (f < 8) × (to ≤ slotCount (now t)) ⌝ }
+    ensures { λ r. ⌜ r ≡ lowestIn (now (t .entry)) f v from to ⌝ }
 {
-    let n = t[SLOT_COUNT];
-    let mut i = 1;
-    while i <= n {
+    let mut i = from;
+    while i <= to {
         if get(t, i, f) == v {
             return i;
         }

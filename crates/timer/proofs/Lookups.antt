@@ -8,10 +8,10 @@ use lib.Dec.{eqb}
 use borrow.Author.Tests.{eq-eqb, ne-eqb}
 use Rattle.model.specs.State.{idBase}
 use Rattle.model.specs.Directives.{lowestFree, lowestNamed}
-use Rattle.model.specs.Words.{word, read}
+use Rattle.model.specs.Words.{read, slotCount}
 use Rattle.model.proofs.Searches.{found}
 use Rattle.model.proofs.ReadBack.{slots-length}
-use Rattle.slots.specs.Search.{lowestWith}
+use Rattle.slots.specs.Search.{lowestIn}
 use Rattle.slots.proofs.Laws.{free-found, name-found}
 
 -- a search of the model that answers what the code found, and 0 for none
@@ -25,13 +25,13 @@ module _ {n i : ℕ} (is : n ≡ i) where
   pub id-found : _≡_ {A = List ℕ} ((idBase + i) ∷ []) ((idBase + n) ∷ [])
   id-found = ap {B = List ℕ} (λ (m : ℕ). (idBase + m) ∷ []) (sym is)
 
-pub is-free : (t : List ℕ) {i : ℕ} → i ≡ lowestWith t 0 0 1 (word t 0) → lowestFree (read t) ≡ i
+pub is-free : (t : List ℕ) {i : ℕ} → i ≡ lowestIn t 0 0 1 (slotCount t) → lowestFree (read t) ≡ i
 is-free t e = free-found t ∙ sym e
 
-pub is-named : (t : List ℕ) (name : ℕ) {i : ℕ} → i ≡ lowestWith t 1 name 1 (word t 0) → lowestNamed (read t) name ≡ i
+pub is-named : (t : List ℕ) (name : ℕ) {i : ℕ} → i ≡ lowestIn t 1 name 1 (slotCount t) → lowestNamed (read t) name ≡ i
 is-named t name e = name-found t name ∙ sym e
 
-pub name-high : (t : List ℕ) (name : ℕ) {i : ℕ} → lowestNamed (read t) name ≡ i → (i ≡ 0 → ⊥) → i ≤ word t 0
+pub name-high : (t : List ℕ) (name : ℕ) {i : ℕ} → lowestNamed (read t) name ≡ i → (i ≡ 0 → ⊥) → i ≤ slotCount t
 name-high t name is n =
     let f = found (λ x. eqb (x .name) name) (read t .slots) (omega (arith, is, n)) in
     omega (arith, f .high, slots-length t, is)

@@ -1,86 +1,59 @@
--- What the calls do to a sound table, from what the steps below them did to it: a slot that an id names, a slot stored, a timer deleted,
--- a slice laid out. Assumes nothing.
+-- What the calls do to a table, from what the steps below them did to it: a slot stored, a timer deleted, a slice laid out. Assumes nothing.
 use mathlib.Core.Path.{_≡_, refl, sym, ap, ap₂, _∙_}
-use Prim.Native.Nat.{ℕ, zero, suc, _+_, _*_, _≤_}
+use Prim.Native.Nat.{ℕ, zero, suc, _+_, _*_}
 use native.Mathlib.Omega.{arith}
-use mathlib.Core.Bool.{true, false, not}
+use mathlib.Core.Bool.{true}
 use mathlib.Core.List.{List, [], _∷_, _++_}
 use lib.ListN.{length, set, drop, replicate, length-replicate}
 use lib.Dec.{eqb}
 use Rattle.model.specs.declared.Chain.the-variants.{ByTicks, ByDate}
-use Rattle.model.specs.State.{Slot, Link, State, rechain, free, slotAt, without, indexOf, names}
-use Rattle.model.specs.Directives.{laidOut, lowestFree, stored, unused, stopped, idled}
-use Rattle.model.specs.Words.{slotWords, allSlots, write, over, word, read}
+use Rattle.model.specs.State.{Slot, Link, State, withChain, free, slotAt, without}
+use Rattle.model.specs.Directives.{laidOut, lowestFree, stored, neverStarted, stopped, idled}
+use Rattle.model.specs.Words.{slotWords, allSlots, write, writtenOver, read}
 use Rattle.model.specs.Sound.{sound}
 use Rattle.model.proofs.Slots.{put-put}
 use Rattle.model.proofs.Searches.{found}
 use Rattle.model.proofs.ReadBack.{slots-length, over-over}
-use Rattle.model.proofs.SoundHolds.{sound-holds, sound-header}
+use Rattle.model.proofs.SoundHolds.{sound-holds}
 use Rattle.model.proofs.Steps.{length-stored}
 use Rattle.links.specs.Places.{InTable}
 use Rattle.links.proofs.NextState.{next-read}
 use Rattle.links.proofs.Restart.{stoppedAt, stop-next, idle-now}
-use Rattle.slots.specs.Search.{namedSlot}
-use Rattle.slots.proofs.Laws.{named-some, named-none}
 
--- ---- the slot that an id names: what its rule says, where it is, and that its words are in the slice
+-- ---- create
 
-pub record Named (t : List ℕ) (id i : ℕ) : Type 0 where
-  pub rule : not (names (read t) id) ≡ false
-  pub index : i ≡ indexOf id
-  pub place : InTable t i
-  pub inside : 8 * i + 10 ≤ length t
+module _ (t : List ℕ) (ok : sound t ≡ true) {i : ℕ} (is : lowestFree (read t) ≡ i) where
+  pub free-in-table : (i ≡ 0 → ⊥) → InTable t i
+  free-in-table some =
+      let f = found (λ x. eqb (x .kind) 0) (read t .slots) (omega (arith, is, some)) in
+      record { holds = sound-holds t ok; low = omega (arith, some); high = omega (arith, f .high, slots-length t, is) }
 
-pub named : {t : List ℕ} {id i : ℕ} → sound t ≡ true → i ≡ namedSlot t id → (i ≡ 0 → ⊥) → Named t id i
-named {t} {id} {i} ok e some =
-    let m = named-some t id i e some in
-    record {
-      rule = ap not (m .names-one);
-      index = m .index;
-      place = record { holds = sound-holds t ok; low = m .low; high = m .high };
-      inside = omega (arith, sound-header t ok .long, m .high);
-    }
+  pub created-is : {u : List ℕ} (name : ℕ) → u ≡ writtenOver (stored (read t) i (neverStarted name)) t → u ≡ writtenOver (stored (read t) (lowestFree (read t)) (neverStarted name)) t
+  created-is name h = h ∙ ap (λ (k : ℕ). writtenOver (stored (read t) k (neverStarted name)) t) (sym is)
 
-pub unknown : (t : List ℕ) (id : ℕ) {i : ℕ} → i ≡ namedSlot t id → i ≡ 0 → not (names (read t) id) ≡ true
-unknown t id {i} e z = ap not (named-none t id i e z)
+-- ---- delete: u is the table after the stop
 
--- what was done at the slot was done at the id's index
-pub at-index : {t : List ℕ} {id i : ℕ} (f : ℕ → State) {u : List ℕ} → Named t id i → u ≡ over (f i) t → u ≡ over (f (indexOf id)) t
-at-index {t} f at e = e ∙ ap (λ (k : ℕ). over (f k) t) (at .index)
+module _ {t : List ℕ} {i : ℕ} (at : InTable t i) {u : List ℕ} (e : u ≡ writtenOver (stoppedAt t i) t) where
+  pub still-in-table : InTable u i
+  still-in-table = idle-now t i at u e .in-table
 
--- ---- create and delete, on a sound table
-
-module _ (t : List ℕ) (ok : sound t ≡ true) where
-  module _ {i : ℕ} (is : lowestFree (read t) ≡ i) where
-    pub free-in-table : (i ≡ 0 → ⊥) → InTable t i
-    free-in-table some =
-        let f = found (λ x. eqb (x .kind) 0) (read t .slots) (omega (arith, is, some)) in
-        record { holds = sound-holds t ok; low = omega (arith, some); high = omega (arith, f .high, slots-length t, is) }
-
-    pub created-is : {u : List ℕ} (name : ℕ) → u ≡ over (stored (read t) i (unused name)) t → u ≡ over (stored (read t) (lowestFree (read t)) (unused name)) t
-    created-is name h = h ∙ ap (λ (k : ℕ). over (stored (read t) k (unused name)) t) (sym is)
-
-  module _ {i : ℕ} (at : InTable t i) {u : List ℕ} (e : u ≡ over (stoppedAt t i) t) where
-    pub still-in-table : InTable u i
-    still-in-table = idle-now t i at u e .in-table
-
-    pub deleted-is : {v : List ℕ} → v ≡ over (stored (read u) i free) u → v ≡ over (stopped (read t) i free) t
-    deleted-is h =
-        let s = stoppedAt t i in
-        h ∙ ap₂ (λ (r : State) (w : List ℕ). over (stored r i free) w) (next-read (stop-next t i at u e)) e
-        ∙ over-over s (stored s i free) t (length-stored s i free)
-        ∙ ap (λ (l : List Slot). over (rechain ByTicks (rechain ByDate (read t) l (without i (read t .dated))) l (without i (read t .ticking))) t)
-        (put-put (read t .slots) i (idled (slotAt (read t .slots) i)) free)
+  pub deleted-is : {v : List ℕ} → v ≡ writtenOver (stored (read u) i free) u → v ≡ writtenOver (stopped (read t) i free) t
+  deleted-is h =
+      let s = stoppedAt t i in
+      h ∙ ap₂ (λ (r : State) (w : List ℕ). writtenOver (stored r i free) w) (next-read (stop-next t i at u e)) e
+      ∙ over-over s (stored s i free) t (length-stored s i free)
+      ∙ ap (λ (l : List Slot). writtenOver (withChain ByTicks (withChain ByDate (read t) l (without i (read t .dated))) l (without i (read t .ticking))) t)
+      (put-put (read t .slots) i (idled (slotAt (read t .slots) i)) free)
 
 -- ---- lay out
 
-module _ (room n t : ℕ) (rest : List ℕ) where
+module _ (n t : ℕ) (rest : List ℕ) where
   free-words : (s : State) → s .ticking ≡ [] → s .dated ≡ [] → (i m : ℕ) → allSlots s i (replicate m free) rest ≡ replicate (8 * m) 0 ++ rest
   free-words s a b i zero = refl
   free-words s a b i (suc m) =
       ap₂
       (λ (p q : List Link).
-      slotWords (record { room = s .room; slots = s .slots; clock = s .clock; ticking = p; dated = q }) i free (allSlots s (suc i) (replicate m free) rest))
+      slotWords (record { slots = s .slots; clock = s .clock; ticking = p; dated = q }) i free (allSlots s (suc i) (replicate m free) rest))
       a b
       ∙ ap {B = List ℕ} (λ (l : List ℕ). 0 ∷ 0 ∷ 0 ∷ 0 ∷ 0 ∷ 0 ∷ 0 ∷ 0 ∷ l) (free-words s a b (suc i) m)
       ∙ ap (λ (k : ℕ). replicate k 0 ++ rest) eight
@@ -88,17 +61,17 @@ module _ (room n t : ℕ) (rest : List ℕ) where
       eight : suc (suc (suc (suc (suc (suc (suc (suc (8 * m)))))))) ≡ 8 * suc m
       eight = omega arith
 
-  laid-words : write (laidOut room n t) rest ≡ set (set (replicate (10 + 8 * n) 0 ++ rest) 0 n) 1 t
+  laid-words : write (laidOut n t) rest ≡ set (set (replicate (10 + 8 * n) 0 ++ rest) 0 n) 1 t
   laid-words =
       ap₂ {C = List ℕ} (λ (k : ℕ) (l : List ℕ). k ∷ t ∷ 0 ∷ 0 ∷ 0 ∷ 0 ∷ 0 ∷ 0 ∷ 0 ∷ 0 ∷ l) (length-replicate n free)
-      (free-words (laidOut room n t) refl refl 1 n)
+      (free-words (laidOut n t) refl refl 1 n)
       ∙ ap (λ (k : ℕ). set (set (replicate k 0 ++ rest) 0 n) 1 t) ten
     where
       ten : suc (suc (suc (suc (suc (suc (suc (suc (suc (suc (8 * n)))))))))) ≡ 10 + 8 * n
       ten = omega arith
 
-pub laid-is : (w u : List ℕ) (n t : ℕ) → u ≡ replicate (10 + 8 * n) 0 ++ drop (10 + 8 * n) w → set (set u 0 n) 1 t ≡ over (laidOut (length w) n t) w
+pub laid-is : (w u : List ℕ) (n t : ℕ) → u ≡ replicate (10 + 8 * n) 0 ++ drop (10 + 8 * n) w → set (set u 0 n) 1 t ≡ writtenOver (laidOut n t) w
 laid-is w u n t e =
     ap (λ (l : List ℕ). set (set l 0 n) 1 t) e
-    ∙ sym (laid-words (length w) n t (drop (10 + 8 * n) w))
-    ∙ ap (λ (k : ℕ). write (laidOut (length w) n t) (drop (10 + 8 * k) w)) (sym (length-replicate n free))
+    ∙ sym (laid-words n t (drop (10 + 8 * n) w))
+    ∙ ap (λ (k : ℕ). write (laidOut n t) (drop (10 + 8 * k) w)) (sym (length-replicate n free))

@@ -5,7 +5,7 @@ use native.Mathlib.Omega.{arith}
 use lib.ListN.{set}
 use borrow.Author.Needs.{needs}
 use Rattle.model.specs.declared.Chain.the-variants.{ByTicks}
-use Rattle.model.specs.Words.{word, read}
+use Rattle.model.specs.Words.{read, firstTicking}
 use Rattle.model.proofs.WellFormed.{Holds}
 use Rattle.model.proofs.SoundHolds.{sound-holds}
 use Rattle.firing.proofs.Heads.{Front, front}
@@ -17,7 +17,7 @@ holds : (c : tie.Start) → Holds (c .args .t .now) (read (c .args .t .now))
 holds c = sound-holds (c .args .t .now) (c .pre)
 
 -- there is a first interval timer
-first : (c : tie.Then1) → let t = c .before .before .before .args .t .now in Front ByTicks t (word t 5)
+first : (c : tie.Then1) → let t = c .before .before .before .args .t .now in Front ByTicks t (firstTicking t)
 first c = front ByTicks (holds (c .before .before .before)) refl (c .if1 .taken)
 
 slice-read-i : tie.Need-slice-read-i
@@ -45,7 +45,7 @@ returns c =
     let entry = some .before .before .before in
     let t = entry .args .t .now in
     nearer-some t (entry .pre) (first some)
-    (c .before .before .put .ensures ∙ ap (λ (w : ℕ). set t (2 + 8 * word t 5 + 3) (w - 1)) (c .before .before .before .before .get .ensures))
+    (c .before .before .put .ensures ∙ ap (λ (w : ℕ). set t (2 + 8 * firstTicking t + 3) (w - 1)) (c .before .before .before .before .get .ensures))
 
 returns-2 : tie.Need-returns-2
 returns-2 c = let entry = c .before .before .before in nearer-none (entry .args .t .now) (entry .pre) (c .if1 .left)

@@ -2,7 +2,7 @@
 use native.Mathlib.Omega.{arith}
 use borrow.Author.Needs.{needs}
 use Rattle.model.proofs.ReadBack.{slots-length}
-use Rattle.links.proofs.Cutting.{in-words}
+use Rattle.links.proofs.Extracting.{in-words}
 use Rattle.firing.proofs.fire_one.Statement.{statement}
 use Rattle.firing.proofs.fire_one.Tie as tie
 

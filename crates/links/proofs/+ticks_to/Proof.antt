@@ -5,9 +5,9 @@ use Prim.Native.Nat.{ℕ, _+_, _*_, _<_}
 use native.Mathlib.Omega.{arith}
 use borrow.Fn.Kinds.{In}
 use borrow.Fn.PlainCycle.{Measures, is, falls, and}
-use Rattle.model.specs.Words.{field, read}
+use Rattle.model.specs.Words.{read, previousOf}
 use Rattle.links.proofs.Positions.{position}
-use Rattle.links.proofs.Back.{Before, none-before, before}
+use Rattle.links.proofs.BackAlongChain.{Before, none-before, before}
 use Rattle.links.proofs.ticks_to.Reads as ticks-to
 use Rattle.links.proofs.ticks_to.Kinds as ticks-to-kinds
 use Rattle.links.proofs.+ticks_to.Lts-ticks_to as ticks-to-lts
@@ -50,7 +50,7 @@ ticks-to-ticks-to-requires t c κs =
     let s = c .before .before .before .before in
     let b = facts t s in
     rw (c .before .get2 .ensures) (
-      subst (λ (j : ℕ). position (field (s .args .t .now) 7 (s .args .i)) (read (s .args .t .now) .ticking) < j) (s .pre .0) (b .less),
+      subst (λ (j : ℕ). position (previousOf (s .args .t .now) (s .args .i)) (read (s .args .t .now) .ticking) < j) (s .pre .0) (b .less),
       (s .pre .1 .0, b .there (omega (arith, c .before .get2 .ensures, c .if1 .left))),
     )
 

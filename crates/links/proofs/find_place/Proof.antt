@@ -1,7 +1,7 @@
 -- `links::find_place` meets its contract. The loop's invariant: the chain up to slot `p` is due by `n`, and slot `i` is the next one. The
 -- measure is what is left and the links behind `p`. Assumes nothing.
 use native.Mathlib.Omega.{arith}
-use Rattle.links.proofs.Walk.{Walked, ahead, walk-start, walk-end, walk-inside, walk-stop, walk-on, walk-falls}
+use Rattle.links.proofs.WalkToPlace.{Walked, ahead, walk-start, walk-end, walk-inside, walk-stop, walk-on, walk-falls}
 use Rattle.links.proofs.find_place.Statement.{statement}
 use Rattle.links.proofs.find_place.Tie as tie
 

@@ -11,7 +11,7 @@ start-idle-requires : tie.Need-start-idle-requires
 start-idle-requires c κs =
     let done = c .before .before .before in
     let start = done .before .before .before in
-    (idle-now (start .args .t .now) (start .args .i) (start .pre .0) (done .stop .last .0) (done .stop .ensures), start .pre .1)
+    idle-now (start .args .t .now) (start .args .i) (start .pre) (done .stop .last .0) (done .stop .ensures)
 
 same-length : tie.Need-same-length
 same-length c = search needs
@@ -22,8 +22,8 @@ returns c =
     let start = done .before .before .before in
     let a = start .args in
     let last = c .before .before .start-idle in
-    restarted (a .t .now) (a .i) (start .pre .0) (done .stop .last .0) (done .stop .ensures)
-    (a .chain) (a .wait) (a .interval) (a .routine) (a .user-data) (last .last .0) (last .ensures)
+    restarted (a .t .now) (a .i) (start .pre) (done .stop .last .0) (done .stop .ensures)
+    (a .mode) (a .amount) (a .routine) (a .user-data) (last .last .0) (last .ensures)
 
 pub start-spec : {M : Type 1} → statement M
 start-spec = tie.close (tie.spec stop-requires start-idle-requires same-length returns)

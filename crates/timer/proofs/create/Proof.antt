@@ -7,7 +7,7 @@ use Prim.Native.Nat.{ℕ}
 use native.Mathlib.Omega.{arith}
 use Rattle.model.specs.declared.Status.the-variants.{InvalidName, TooMany, NotSound}
 use Rattle.model.proofs.SoundHolds.{sound-header}
-use Rattle.timer.proofs.Replies.{Tested, tested, not-same, refuses, done}
+use Rattle.answers.proofs.Replies.{Tested, tested, not-same, refuses, done}
 use Rattle.timer.proofs.Lookups.{none-found, some-found, id-found, is-free}
 use Rattle.timer.proofs.Tables.{free-in-table, created-is}
 use Rattle.timer.proofs.create.Statement.{statement}
@@ -38,8 +38,11 @@ same-length-2 c = search needs
 returns-2 : tie.Need-returns-2
 returns-2 c = refuses _ _ InvalidName 1 (sure (c .before) .rule, tt) (eq-eqb _ 0 (c .if2 .taken)) refl
 
+slice-reshared-read-find : tie.Need-slice-reshared-read-find
+slice-reshared-read-find c = let b = c .before .before in omega (arith, sound-header (t b) (sure b .ok))
+
 find-requires : tie.Need-find-requires
-find-requires c κs = (sure (c .before .before) .ok, omega arith)
+find-requires c κs = (sure (c .before .before) .ok, omega arith, omega arith)
 
 same-length-3 : tie.Need-same-length-3
 same-length-3 c = search needs
@@ -55,8 +58,8 @@ store-requires c κs =
     let b = c .before .before .before .before .before in
     free-in-table (t b) (sure b .ok) (is-free (t b) (c .before .before .find .ensures)) (c .before .if3 .left)
 
-add-t16 : tie.Need-add-t16
-add-t16 c =
+add-t13 : tie.Need-add-t13
+add-t13 c =
     let d = c .before .before .before .before in
     let b = d .before .before .before .before in
     let place = free-in-table (t b) (sure b .ok) (is-free (t b) (d .before .find .ensures)) (d .if3 .left) in
@@ -82,10 +85,11 @@ create-spec =
     returns
     same-length-2
     returns-2
+    slice-reshared-read-find
     find-requires
     same-length-3
     returns-3
     store-requires
-    add-t16
+    add-t13
     same-length-4
     returns-4)

@@ -3,82 +3,71 @@ use borrow.Author.Needs.{needs}
 use mathlib.Core.List.{List, [], _∷_}
 use mathlib.Core.Path.{refl}
 use Prim.Native.Nat.{ℕ}
-use Rattle.model.specs.declared.Status.the-variants.{InvalidId, NotSound}
 use Rattle.model.specs.State.{free}
 use Rattle.model.specs.Directives.{stopped}
 use Rattle.model.specs.Words.{read}
-use Rattle.timer.proofs.Replies.{Tested, tested, not-same, refuses, done}
-use Rattle.timer.proofs.Tables.{Named, named, unknown, at-index, still-in-table, deleted-is}
+use Rattle.answers.proofs.Replies.{done}
+use Rattle.answers.proofs.Openings.{refuses-as}
+use Rattle.opening.specs.Ids.{Named}
+use Rattle.opening.proofs.Ids.{at-index}
+use Rattle.timer.proofs.Tables.{still-in-table, deleted-is}
 use Rattle.timer.proofs.delete.Statement.{statement}
 use Rattle.timer.proofs.delete.Tie as tie
 
--- ---- the table is sound
-
-abbrev t : tie.Else1 → List ℕ
-t b = b .before .before .before .before .args .table .now
-
-sure : (b : tie.Else1) → Tested (t b)
-sure b = tested (b .before .is-sound .ensures) (b .if1 .left)
-
 -- ---- the id names a slot
 
-abbrev found : tie.Else2 → tie.Else1
-found d = d .before .before .before
+module _ (o : tie.After-opened) where
+  abbrev t : List ℕ
+  t = o .before .before .before .before .before .args .table .now
 
-at : (d : tie.Else2) → Named (t (found d)) (found d .before .before .before .before .args .id) (d .before .named .result)
-at d = named (sure (found d) .ok) (d .before .named .ensures) (d .if2 .left)
+  at : Named t (o .before .before .before .before .before .args .id) (o .opened .given .0 .0)
+  at = o .before .before .open-timer .ensures .holds _ (o .opened .given .1)
 
 -- ---- the needs
 
-is-sound-requires : tie.Need-is-sound-requires
-is-sound-requires c κs = search needs
+open-timer-requires : tie.Need-open-timer-requires
+open-timer-requires c κs = search needs
+
+enum-known-opened : tie.Need-enum-known-opened
+enum-known-opened c = search needs
+
+enum-told : tie.Need-enum-told
+enum-told c = search needs
 
 same-length : tie.Need-same-length
 same-length c = search needs
 
 returns : tie.Need-returns
-returns c = refuses _ _ NotSound 0 tt (not-same (c .before .is-sound .ensures) (c .if1 .taken)) refl
+returns c = refuses-as _ _ (c .before .before .open-timer .ensures) (c .enum-told .given .1) [] refl refl
 
-named-requires : tie.Need-named-requires
-named-requires c κs = sure (c .before) .ok
+stop-requires : tie.Need-stop-requires
+stop-requires c κs = at (c .before .before) .place
+
+store-requires : tie.Need-store-requires
+store-requires c κs =
+    let stop = c .before .before .before in
+    still-in-table (at (stop .before .before .before) .place) (stop .stop .ensures)
 
 same-length-2 : tie.Need-same-length-2
 same-length-2 c = search needs
 
 returns-2 : tie.Need-returns-2
-returns-2 c = refuses _ _ InvalidId 1 (sure (c .before .before .before) .rule, tt) (unknown _ _ (c .before .named .ensures) (c .if2 .taken)) refl
-
-stop-requires : tie.Need-stop-requires
-stop-requires c κs = at (c .before) .place
-
-store-requires : tie.Need-store-requires
-store-requires c κs =
-    let d = c .before .before .before .before .before in
-    still-in-table _ (sure (found d) .ok) (at d .place) (c .before .before .before .stop .ensures)
-
-same-length-3 : tie.Need-same-length-3
-same-length-3 c = search needs
-
-returns-3 : tie.Need-returns-3
-returns-3 c =
+returns-2 c =
     let stop = c .before .before .before .before .before .before in
-    let d = stop .before .before in
-    let b = found d in
-    done _ _ (0 ∷ []) _ [] (sure b .rule, (at d .rule, tt)) refl
-    (at-index (λ k. stopped (read (t b)) k free) (at d)
-    (deleted-is (t b) (sure b .ok) (at d .place) (stop .stop .ensures) (c .before .before .store .ensures))) refl
+    let o = stop .before .before .before in
+    done _ _ (0 ∷ []) _ [] (at o .tested, (at o .rule, tt)) refl
+    (at-index (λ k. stopped (read (t o)) k free) (at o) (deleted-is (at o .place) (stop .stop .ensures) (c .before .before .store .ensures))) refl
 
 pub delete-spec : {M : Type 1} → statement M
 delete-spec =
     tie.close
     (tie.spec
-    is-sound-requires
+    open-timer-requires
+    enum-known-opened
+    enum-told
     same-length
     returns
-    named-requires
-    same-length-2
-    returns-2
     stop-requires
     store-requires
-    same-length-3
-    returns-3)
+    same-length-2
+    returns-2)

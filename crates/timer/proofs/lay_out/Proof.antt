@@ -8,7 +8,7 @@ use native.Mathlib.Omega.{arith}
 use lib.ListN.{length}
 use Rattle.model.specs.declared.Status.the-variants.{InvalidSize, InvalidNumber}
 use Rattle.slots.proofs.Laws.{clear-length}
-use Rattle.timer.proofs.Replies.{not-same, refuses, done}
+use Rattle.answers.proofs.Replies.{not-same, refuses, done}
 use Rattle.timer.proofs.Tables.{laid-is}
 use Rattle.timer.proofs.lay_out.Statement.{statement}
 use Rattle.timer.proofs.lay_out.Tie as tie

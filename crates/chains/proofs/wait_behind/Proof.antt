@@ -1,0 +1,40 @@
+-- `chains::wait_behind` meets its contract, by its three cases: no slot, and a slot of either chain. Assumes nothing.
+use native.Mathlib.Omega.{arith}
+use mathlib.Core.Path.{sym, _∙_}
+use borrow.Author.Needs.{needs}
+use Rattle.chains.proofs.EditedWords.{wait-behind-ticks, wait-behind-date}
+use Rattle.chains.proofs.wait_behind.Statement.{statement}
+use Rattle.chains.proofs.wait_behind.Tie as tie
+
+returns : tie.Need-returns
+returns c = search needs
+
+get-requires : tie.Need-get-requires
+get-requires c κs = search needs
+
+enum-told : tie.Need-enum-told
+enum-told c = search needs
+
+sub-result : tie.Need-sub-result
+sub-result c =
+    let some = c .before .before .before in
+    omega (arith, c .before .before .get .ensures, some .before .before .pre .1 (c .enum-told .given .1) (omega (arith, some .if1 .left)))
+
+enum-told-2 : tie.Need-enum-told-2
+enum-told-2 c = search needs
+
+returns-2 : tie.Need-returns-2
+returns-2 c =
+    let some = c .before .before .before in
+    let a = some .before .before .args in
+    rw (c .enum-told .given .1, c .before .before .get .ensures) (sym (wait-behind-ticks (a .t .now) (a .w) (a .n) (some .if1 .left)))
+
+returns-3 : tie.Need-returns-3
+returns-3 c =
+    let some = c .before .before .before in
+    let a = some .before .before .args in
+    rw (c .enum-told2 .given .1) (c .before .before .get .ensures ∙ sym (wait-behind-date (a .t .now) (a .w) (a .n) (some .if1 .left)))
+
+pub wait-behind-spec : {M : Type 1} → statement M
+wait-behind-spec =
+    tie.close (tie.spec returns get-requires enum-told sub-result enum-told-2 returns-2 returns-3)

@@ -1,0 +1,3 @@
+-- Lists has whether the lent list is long enough; Clocks what each call leaves.
+pub mod Lists
+pub mod Clocks

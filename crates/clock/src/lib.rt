@@ -1,0 +1,85 @@
+// The clock: a tick, set clock and get clock. Their contracts are as those of crate `timer`; `readingStatus` and `readingAnswer`
+// (answers/specs/Answers.antt) say what get clock's answer is in document 01's numbers.
+ghost use mathlib.Core.Path.{_≡_};
+ghost use mathlib.Core.List.{[]};
+ghost use Rattle.model.specs.Calls as call;
+ghost use Rattle.model.specs.Outcome.{outcomeOf, outcome};
+ghost use Rattle.answers.specs.Answers.{statusOf, answerOf, readingStatus, readingAnswer};
+ghost use Rattle.answers.specs.Openings.{Opens};
+ghost use Rattle.clock.specs.Lent.{onList, Lent};
+use answers::Answer;
+use answers::Reading;
+use calendar::Date;
+use calendar::Instant;
+use calendar::WallTime;
+use firing::ENTRY;
+use firing::come_nearer;
+use firing::fire;
+use firing::step_clock;
+use model::Chain;
+use model::Status;
+use soundness::is_sound;
+use table::*;
+
+// The lent list has room for every slot; refused where the table is not sound or the list is too short.
+fn open_list(table: &[u32], fired: &[u32]) -> Answer
+    ensures { λ r. ⌜ Opens (onList (now (table .entry)) (now (fired .entry))) (λ _. Lent (now (table .entry)) (now (fired .entry))) r ⌝ }
+{
+    if !is_sound(table) {
+        return Answer::Refused(Status::NotSound);
+    }
+    if fired.len() < ENTRY * (table[SLOT_COUNT] as usize) {
+        return Answer::Refused(Status::ListTooShort);
+    }
+    Answer::Done(0)
+}
+
+// One tick: interval timers come nearer and those due fire; then the clock goes on and dated timers that are due fire. Answers how many.
+pub fn tick(table: &mut [u32], fired: &mut [u32]) -> Answer
+    ensures { λ r. ⌜ outcomeOf (statusOf r) (answerOf r) (now (table .exit)) (now (fired .exit)) ≡ outcome (now (table .entry)) (call.tick (now (fired .entry))) ⌝ }
+{
+    let opened = open_list(table, fired);
+    let Answer::Done(_) = opened else {
+        return opened;
+    };
+    come_nearer(table);
+    let ticked = fire(table, fired, Chain::ByTicks, 0, 0);
+    step_clock(table);
+    let second = table[SECONDS];
+    let count = fire(table, fired, Chain::ByDate, second, ticked);
+    Answer::Done(count)
+}
+
+// The clock is set, and dated timers that are then due fire. Interval timers do not change. Answers how many fired.
+pub fn set_clock(table: &mut [u32], time: WallTime, fired: &mut [u32]) -> Answer
+    ensures { λ r. ⌜ outcomeOf (statusOf r) (answerOf r) (now (table .exit)) (now (fired .exit)) ≡ outcome (now (table .entry)) (call.setClock time (now (fired .entry))) ⌝ }
+{
+    let opened = open_list(table, fired);
+    let Answer::Done(_) = opened else {
+        return opened;
+    };
+    let Instant::Second(second) = calendar::to_seconds(time) else {
+        return Answer::Refused(Status::InvalidClock);
+    };
+    firing::set_clock(table, second);
+    let count = fire(table, fired, Chain::ByDate, second, 0);
+    Answer::Done(count)
+}
+
+// The date that the clock stands at, with the ticks into its second.
+pub fn get_clock(table: &[u32]) -> Reading
+    ensures { λ r. ⌜ outcomeOf (readingStatus r) (readingAnswer r) (now (table .entry)) [] ≡ outcome (now (table .entry)) call.getClock ⌝ }
+{
+    if !is_sound(table) {
+        return Reading::Unread(Status::NotSound);
+    }
+    if table[CLOCK_SET] != 1 {
+        return Reading::Unread(Status::NotDefined);
+    }
+    let Date::On(date) = calendar::from_seconds(table[SECONDS]) else {
+        return Reading::Unread(Status::NotSound);
+    };
+    let mut reading = date;
+    reading.ticks = table[TICKS];
+    Reading::Time(reading)
+}

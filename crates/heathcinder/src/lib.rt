@@ -1,0 +1,158 @@
+// The timer manager for C: the prototypes of include/heathcinder.h, in its order. A slice is a pointer and a length there, and seven words are
+// a `struct hc_wall_time`. Each call gives its status as the result; an answer goes through the last pointer, and is 0 on every refusal. The
+// contracts are the calls' own equations with the model's `outcome`.
+ghost use mathlib.Core.Path.{_≡_};
+ghost use mathlib.Core.List.{[], _∷_};
+ghost use Rattle.model.specs.Calls as call;
+ghost use Rattle.model.specs.Outcome.{outcomeOf, outcome};
+ghost use Rattle.heathcinder.specs.Exports.{wallTime};
+use answers::number_in;
+use answers::reading_numbers;
+use answers::reading_status;
+use answers::status_of;
+use calendar::WallTime;
+
+// The words of a `struct hc_wall_time`.
+const YEAR: usize = 0;
+
+const MONTH: usize = 1;
+
+const DAY: usize = 2;
+
+const HOUR: usize = 3;
+
+const MINUTE: usize = 4;
+
+const SECOND: usize = 5;
+
+const TICKS: usize = 6;
+
+// The wall time of seven numbers.
+fn wall_time(numbers: &[u32; 7]) -> WallTime
+    ensures { λ r. ⌜ r ≡ wallTime (now (numbers .entry)) ⌝ }
+{
+    WallTime {
+        year: numbers[YEAR],
+        month: numbers[MONTH],
+        day: numbers[DAY],
+        hour: numbers[HOUR],
+        minute: numbers[MINUTE],
+        second: numbers[SECOND],
+        ticks: numbers[TICKS],
+    }
+}
+
+// The twelve calls. Each is the call of that name of `timer`, `starts` or `clock`, with the same arguments.
+#[no_mangle]
+pub extern "C" fn hc_lay_out(table: &mut [u32], slots: u32, rate: u32) -> u32
+    ensures { λ r. ⌜ outcomeOf r (0 ∷ []) (now (table .exit)) [] ≡ outcome (now (table .entry)) (call.layOut slots rate) ⌝ }
+{
+    status_of(timer::lay_out(table, slots, rate))
+}
+
+#[no_mangle]
+pub extern "C" fn hc_create(table: &mut [u32], name: u32, id: &mut u32) -> u32
+    ensures { λ r. ⌜ outcomeOf r (now (id .exit) ∷ []) (now (table .exit)) [] ≡ outcome (now (table .entry)) (call.create name) ⌝ }
+{
+    let answer = timer::create(table, name);
+    *id = number_in(answer);
+    status_of(answer)
+}
+
+#[no_mangle]
+pub extern "C" fn hc_ident(table: &[u32], name: u32, id: &mut u32) -> u32
+    ensures { λ r. ⌜ outcomeOf r (now (id .exit) ∷ []) (now (table .entry)) [] ≡ outcome (now (table .entry)) (call.ident name) ⌝ }
+{
+    let answer = timer::ident(table, name);
+    *id = number_in(answer);
+    status_of(answer)
+}
+
+#[no_mangle]
+pub extern "C" fn hc_cancel(table: &mut [u32], id: u32) -> u32
+    ensures { λ r. ⌜ outcomeOf r (0 ∷ []) (now (table .exit)) [] ≡ outcome (now (table .entry)) (call.cancel id) ⌝ }
+{
+    status_of(timer::cancel(table, id))
+}
+
+#[no_mangle]
+pub extern "C" fn hc_delete(table: &mut [u32], id: u32) -> u32
+    ensures { λ r. ⌜ outcomeOf r (0 ∷ []) (now (table .exit)) [] ≡ outcome (now (table .entry)) (call.delete id) ⌝ }
+{
+    status_of(timer::delete(table, id))
+}
+
+#[no_mangle]
+pub extern "C" fn hc_fire_after(
+    table: &mut [u32],
+    id: u32,
+    ticks: u32,
+    routine: u32,
+    user_data: u32,
+) -> u32
+    ensures { λ r. ⌜ outcomeOf r (0 ∷ []) (now (table .exit)) [] ≡ outcome (now (table .entry)) (call.fireAfter id ticks routine user_data) ⌝ }
+{
+    status_of(starts::fire_after(table, id, ticks, routine, user_data))
+}
+
+#[no_mangle]
+pub extern "C" fn hc_fire_when(
+    table: &mut [u32],
+    id: u32,
+    when: &[u32; 7],
+    routine: u32,
+    user_data: u32,
+) -> u32
+    ensures { λ r. ⌜ outcomeOf r (0 ∷ []) (now (table .exit)) [] ≡ outcome (now (table .entry)) (call.fireWhen id (wallTime (now (when .entry))) routine user_data) ⌝ }
+{
+    let date = wall_time(when);
+    status_of(starts::fire_when(table, id, date, routine, user_data))
+}
+
+#[no_mangle]
+pub extern "C" fn hc_reset(table: &mut [u32], id: u32) -> u32
+    ensures { λ r. ⌜ outcomeOf r (0 ∷ []) (now (table .exit)) [] ≡ outcome (now (table .entry)) (call.reset id) ⌝ }
+{
+    status_of(starts::reset(table, id))
+}
+
+#[no_mangle]
+pub extern "C" fn hc_ticks_left(table: &[u32], id: u32, ticks: &mut u32) -> u32
+    ensures { λ r. ⌜ outcomeOf r (now (ticks .exit) ∷ []) (now (table .entry)) [] ≡ outcome (now (table .entry)) (call.ticksLeft id) ⌝ }
+{
+    let answer = timer::ticks_left(table, id);
+    *ticks = number_in(answer);
+    status_of(answer)
+}
+
+#[no_mangle]
+pub extern "C" fn hc_tick(table: &mut [u32], fired: &mut [u32], count: &mut u32) -> u32
+    ensures { λ r. ⌜ outcomeOf r (now (count .exit) ∷ []) (now (table .exit)) (now (fired .exit)) ≡ outcome (now (table .entry)) (call.tick (now (fired .entry))) ⌝ }
+{
+    let answer = clock::tick(table, fired);
+    *count = number_in(answer);
+    status_of(answer)
+}
+
+#[no_mangle]
+pub extern "C" fn hc_set_clock(
+    table: &mut [u32],
+    time: &[u32; 7],
+    fired: &mut [u32],
+    count: &mut u32,
+) -> u32
+    ensures { λ r. ⌜ outcomeOf r (now (count .exit) ∷ []) (now (table .exit)) (now (fired .exit)) ≡ outcome (now (table .entry)) (call.setClock (wallTime (now (time .entry))) (now (fired .entry))) ⌝ }
+{
+    let answer = clock::set_clock(table, wall_time(time), fired);
+    *count = number_in(answer);
+    status_of(answer)
+}
+
+#[no_mangle]
+pub extern "C" fn hc_get_clock(table: &[u32], time: &mut [u32; 7]) -> u32
+    ensures { λ r. ⌜ outcomeOf r (now (time .exit)) (now (table .entry)) [] ≡ outcome (now (table .entry)) call.getClock ⌝ }
+{
+    let reading = clock::get_clock(table);
+    *time = reading_numbers(reading);
+    reading_status(reading)
+}

@@ -1,0 +1,181 @@
+-- What an accepted call has passed. No rule's number is 0, so the status is 0 only where no rule applies: each test is false, and is read as
+-- a fact. Assumes nothing.
+use mathlib.Core.Path.{_≡_, refl, sym}
+use Prim.Native.Nat.{ℕ, zero, suc, _+_, _*_, _≤_, _<_}
+use native.Mathlib.Nat.{pos-of-ne-zero}
+use native.Mathlib.Omega.{arith}
+use mathlib.Core.Bool.{Bool, true, false, not, _&&_}
+use mathlib.Core.List.{List, [], _∷_}
+use lib.ListN.{length, getD, take}
+use lib.Dec.{leb, ltb, eqb}
+use borrow.Author.Tests.{leb-true, ltb-true, ltb-false, le-leb, lt-ltb, eqb-false, ne-eqb, not-true, not-false}
+use Rattle.calendar.specs.declared.WallTime.{WallTime}
+use Rattle.calendar.specs.Calendar.{allOf, valid, secondsOf}
+use Rattle.model.specs.Lists.{All}
+use Rattle.model.specs.Status.{Status, InvalidName, InvalidId, TooMany, InvalidSize, InvalidAddress, InvalidNumber, NotDefined, InvalidClock, NotSound, ListTooShort, numberOf, Refusal, when, firstOf}
+use Rattle.model.specs.Calls.{Call, layOut, create, ident, cancel, delete, fireAfter, fireWhen, reset, ticksLeft, tick, setClock, getClock}
+use Rattle.model.specs.Kinds.{lastByTicks}
+use Rattle.model.specs.State.{State, slotAt, idBase, indexOf, names}
+use Rattle.model.specs.Directives.{lowestFree, lowestNamed, isShort, limits, refusals}
+use Rattle.model.proofs.ListLaws.{cases, clash, both, all-at, all-true}
+
+-- ---- any list of rules
+
+-- a rule that never applies
+abbrev pub noRule : Refusal
+noRule = when NotSound false
+
+-- no refusal has the number 0
+pub not-zero : (s : Status) → numberOf s ≡ 0 → ⊥
+not-zero InvalidName z = omega arith
+not-zero InvalidId z = omega arith
+not-zero TooMany z = omega arith
+not-zero InvalidSize z = omega arith
+not-zero InvalidAddress z = omega arith
+not-zero InvalidNumber z = omega arith
+not-zero NotDefined z = omega arith
+not-zero InvalidClock z = omega arith
+not-zero NotSound z = omega arith
+not-zero ListTooShort z = omega arith
+
+first-passes : (r : Refusal) (rs : List Refusal) → firstOf (r ∷ rs) ≡ 0 → r .given ≡ false
+first-passes r rs e = cases (r .given) (λ f. absurd (not-zero (r .status) (rw f at e))) (λ f. f)
+
+-- rule k, counted from 0, does not apply
+passes : (rs : List Refusal) → firstOf rs ≡ 0 → (k : ℕ) → getD rs k noRule .given ≡ false
+passes [] e k = refl
+passes (r ∷ rs) e zero = first-passes r rs e
+passes (r ∷ rs) e (suc k) = passes rs (rw (first-passes r rs e) at e) k
+
+pub none-given : (rs : List Refusal) → All (λ r. r .given ≡ false) rs → firstOf rs ≡ 0
+none-given [] h = refl
+none-given (r ∷ rs) h = rw (h .0) (none-given rs (h .1))
+
+-- the rules before rule k do not apply, and it does
+pub first-given : (rs : List Refusal) (k : ℕ) → All (λ r. r .given ≡ false) (take k rs) → getD rs k noRule .given ≡ true
+    → firstOf rs ≡ numberOf (getD rs k noRule .status)
+first-given [] k h e = clash (sym e)
+first-given (r ∷ rs) zero h e = rw e
+first-given (r ∷ rs) (suc k) h e = rw (h .0) (first-given rs k (h .1) e)
+
+-- ---- an id that names a timer
+
+pub record Named (s : State) (id : ℕ) : Type 0 where
+  pub is : id ≡ idBase + indexOf id
+  pub low : 0 < indexOf id
+  pub high : indexOf id ≤ length (s .slots)
+  pub alive : slotAt (s .slots) (indexOf id) .kind ≡ 0 → ⊥
+
+module _ (s : State) (id : ℕ) where
+  -- the tests of `names`
+  abbrev tests : List Bool
+  tests = ltb idBase id ∷ leb (indexOf id) (length (s .slots)) ∷ not (eqb (slotAt (s .slots) (indexOf id) .kind) 0) ∷ []
+
+  pub named : names s id ≡ true → Named s id
+  named e =
+      let t = all-at tests e in
+      let above = ltb-true idBase id (t 0) in
+      let kind = slotAt (s .slots) (indexOf id) .kind in
+      record {
+        is = omega arith;
+        low = omega arith;
+        high = leb-true (indexOf id) (length (s .slots)) (t 1);
+        alive = eqb-false kind 0 (not-true (eqb kind 0) (t 2));
+      }
+
+  pub named-true : Named s id → names s id ≡ true
+  named-true h =
+      all-true tests (
+        lt-ltb idBase id (omega (arith, h .is, h .low)),
+        (le-leb (indexOf id) (length (s .slots)) (h .high), (rw (ne-eqb (slotAt (s .slots) (indexOf id) .kind) 0 (h .alive)), tt)),
+      )
+
+  known : not (names s id) ≡ false → Named s id
+  known e = named (not-false (names s id) e)
+
+-- ---- each call's tests, as facts
+
+pub record LaysOut (w : List ℕ) (n t : ℕ) : Type 0 where
+  pub slots-low : 1 ≤ n
+  pub slots-high : n ≤ 255
+  pub ticks-low : 1 ≤ t
+  pub ticks-high : t ≤ 1000
+  pub fits : 10 + 8 * n ≤ length w
+
+pub record StartsByTicks (s : State) (id n r : ℕ) : Type 0 where
+  pub ticks : 0 < n
+  pub routine : 0 < r
+  pub names-one : Named s id
+
+pub record StartsByDate (s : State) (id : ℕ) (w : WallTime) (r : ℕ) : Type 0 where
+  pub running : s .clock .isSet ≡ true
+  pub routine : 0 < r
+  pub is-valid : valid w ≡ true
+  pub later : s .clock .second < secondsOf w
+  pub names-one : Named s id
+
+-- the list has three words for each slot
+abbrev pub LongEnough : State → List ℕ → Type 0
+LongEnough s list = 3 * length (s .slots) ≤ length list
+
+-- what each call has passed where it is accepted
+abbrev pub Accepted : List ℕ → State → Call → Type 0
+Accepted w s (layOut n t) = LaysOut w n t
+Accepted w s (create name) = (0 < name) × (0 < lowestFree s)
+Accepted w s (ident name) = (0 < name) × (0 < lowestNamed s name)
+Accepted w s (cancel id) = Named s id
+Accepted w s (delete id) = Named s id
+Accepted w s (fireAfter id n r u) = StartsByTicks s id n r
+Accepted w s (fireWhen id d r u) = StartsByDate s id d r
+Accepted w s (reset id) = Named s id × (lastByTicks (slotAt (s .slots) (indexOf id) .kind) ≡ true)
+Accepted w s (ticksLeft id) = Named s id
+Accepted w s (tick list) = LongEnough s list
+Accepted w s (setClock d list) = LongEnough s list × (valid d ≡ true)
+Accepted w s getClock = s .clock .isSet ≡ true
+
+positive : (n : ℕ) → eqb n 0 ≡ false → 0 < n
+positive n e = pos-of-ne-zero (eqb-false n 0 e)
+
+module _ (words : List ℕ) (s : State) where
+  -- rule k of the call does not apply
+  not-refused : (c : Call) → firstOf (refusals words s c) ≡ 0 → (k : ℕ) → getD (refusals words s c) k noRule .given ≡ false
+  not-refused c e = passes (refusals words s c) e
+
+  long-enough : (list : List ℕ) → isShort s list ≡ false → LongEnough s list
+  long-enough list e = ltb-false (length list) (3 * length (s .slots)) e
+
+  pub accepted-facts : (c : Call) → firstOf (refusals words s c) ≡ 0 → Accepted words s c
+  accepted-facts (layOut n t) e =
+      let p = not-refused (layOut n t) e in
+      let b = all-at (limits n t) (not-false (allOf (limits n t)) (p 0)) in
+      record {
+        slots-low = leb-true 1 n (b 0);
+        slots-high = leb-true n 255 (b 1);
+        ticks-low = leb-true 1 t (b 2);
+        ticks-high = leb-true t 1000 (b 3);
+        fits = ltb-false (length words) (10 + 8 * n) (p 1);
+      }
+  accepted-facts (create name) e = let p = not-refused (create name) e in (positive name (p 1), positive (lowestFree s) (p 2))
+  accepted-facts (ident name) e = let p = not-refused (ident name) e in (positive name (p 1), positive (lowestNamed s name) (p 2))
+  accepted-facts (cancel id) e = known s id (not-refused (cancel id) e 1)
+  accepted-facts (delete id) e = known s id (not-refused (delete id) e 1)
+  accepted-facts (fireAfter id n r u) e =
+      let p = not-refused (fireAfter id n r u) e in
+      record { ticks = positive n (p 1); routine = positive r (p 2); names-one = known s id (p 3) }
+  accepted-facts (fireWhen id w r u) e =
+      let p = not-refused (fireWhen id w r u) e in
+      let date = both (valid w) (ltb (s .clock .second) (secondsOf w)) (not-false (valid w && ltb (s .clock .second) (secondsOf w)) (p 3)) in
+      record {
+        running = not-false (s .clock .isSet) (p 1);
+        routine = positive r (p 2);
+        is-valid = date .0;
+        later = ltb-true (s .clock .second) (secondsOf w) (date .1);
+        names-one = known s id (p 4);
+      }
+  accepted-facts (reset id) e =
+      let p = not-refused (reset id) e in
+      (known s id (p 1), not-false (lastByTicks (slotAt (s .slots) (indexOf id) .kind)) (p 2))
+  accepted-facts (ticksLeft id) e = known s id (not-refused (ticksLeft id) e 1)
+  accepted-facts (tick list) e = long-enough list (not-refused (tick list) e 1)
+  accepted-facts (setClock w list) e = let p = not-refused (setClock w list) e in (long-enough list (p 1), not-false (valid w) (p 2))
+  accepted-facts getClock e = not-false (s .clock .isSet) (not-refused getClock e 1)

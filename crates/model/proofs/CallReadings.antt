@@ -1,0 +1,184 @@
+-- Demand 3 read off the calls themselves: a timer that an accepted fire after started for n ticks fires in the nth accepted tick after it, where no
+-- accepted call before ended it; and the clock stands at the second that it was set to and the ticks since. Assumes nothing.
+use mathlib.Core.Path.{_≡_, refl, sym, ap, ap₂, _∙_, subst}
+use Prim.Native.Nat.{ℕ, suc, _+_, _-_, _*_, min}
+use native.Mathlib.Omega.{arith}
+use mathlib.Core.Bool.{Bool, true, false, cond, _||_}
+use mathlib.Core.Option.{Option, some}
+use mathlib.Core.List.{List, [], _∷_, _++_, append-assoc, List·Memᴰ}
+use lib.Dec.{eqb}
+use borrow.Author.Tests.{eq-eqb}
+use Rattle.calendar.specs.Calendar.{lastSecond}
+use Rattle.model.specs.Lists.{any, count, All}
+use Rattle.model.specs.Calls.{Call, layOut, create, ident, cancel, delete, fireAfter, fireWhen, reset, ticksLeft, tick, setClock, getClock}
+use Rattle.model.specs.State.{Fired}
+use Rattle.model.specs.Outcome.{outcome}
+use Rattle.model.specs.History.{Event, laidOutFor, changes, deletes, oneTick, clockSetTo, nothing, eventOf, eventsOn, isTick, ticks, perSecond, clockAfter, ends}
+use Rattle.model.specs.Demand.{after, acceptedIn, Begins, eventsAfter}
+use Rattle.model.proofs.ListLaws.{cases, clash, count-append}
+use Rattle.model.proofs.Readings.{forTicks, tick-lists}
+
+-- ---- the words of a list of accepted calls
+
+-- a tick; a cancel, reset, new start or delete of the timer, or a lay out
+abbrev pub isTickCall : Call → Bool
+isTickCall (layOut n t) = false
+isTickCall (create name) = false
+isTickCall (ident name) = false
+isTickCall (cancel i) = false
+isTickCall (delete i) = false
+isTickCall (fireAfter i n r u) = false
+isTickCall (fireWhen i w r u) = false
+isTickCall (reset i) = false
+isTickCall (ticksLeft i) = false
+isTickCall (tick list) = true
+isTickCall (setClock w list) = false
+isTickCall getClock = false
+
+abbrev pub endsTimer : ℕ → Call → Bool
+endsTimer id (layOut n t) = true
+endsTimer id (create name) = false
+endsTimer id (ident name) = false
+endsTimer id (cancel i) = eqb i id
+endsTimer id (delete i) = eqb i id
+endsTimer id (fireAfter i n r u) = eqb i id
+endsTimer id (fireWhen i w r u) = eqb i id
+endsTimer id (reset i) = eqb i id
+endsTimer id (ticksLeft i) = false
+endsTimer id (tick list) = false
+endsTimer id (setClock w list) = false
+endsTimer id getClock = false
+
+tick-is : (h : List Event) (c : Call) → isTick (eventOf h c) ≡ isTickCall c
+tick-is h (layOut n t) = refl
+tick-is h (create name) = refl
+tick-is h (ident name) = refl
+tick-is h (cancel i) = refl
+tick-is h (delete i) = refl
+tick-is h (fireAfter i n r u) = refl
+tick-is h (fireWhen i w r u) = refl
+tick-is h (reset i) = refl
+tick-is h (ticksLeft i) = refl
+tick-is h (tick list) = refl
+tick-is h (setClock w list) = refl
+tick-is h getClock = refl
+
+ends-is : (id : ℕ) (h : List Event) (c : Call) → ends id (eventOf h c) ≡ endsTimer id c
+ends-is id h (layOut n t) = refl
+ends-is id h (create name) = refl
+ends-is id h (ident name) = refl
+ends-is id h (cancel i) = refl
+ends-is id h (delete i) = refl
+ends-is id h (fireAfter i n r u) = refl
+ends-is id h (fireWhen i w r u) = refl
+ends-is id h (reset i) = refl
+ends-is id h (ticksLeft i) = refl
+ends-is id h (tick list) = refl
+ends-is id h (setClock w list) = refl
+ends-is id h getClock = refl
+
+-- the events of more calls, before which there were the events h
+record More (id : ℕ) (h : List Event) (cs : List Call) : Type 0 where
+  events : List Event
+  are : eventsOn h cs ≡ events ++ h
+  as-many : ticks events ≡ count isTickCall cs
+  as-ended : any (ends id) events ≡ any (endsTimer id) cs
+
+any-append : (p : Event → Bool) (xs ys : List Event) → any p (xs ++ ys) ≡ (any p xs || any p ys)
+any-append p [] ys = refl
+any-append p (x ∷ xs) ys = cases (p x) (λ e. rw e) (λ e. rw e (any-append p xs ys))
+
+or-comm : (a b : Bool) → (a || (b || false)) ≡ (b || a)
+or-comm true true = refl
+or-comm true false = refl
+or-comm false true = refl
+or-comm false false = refl
+
+more : (id : ℕ) (h : List Event) (cs : List Call) → More id h cs
+more id h [] = record { events = []; are = refl; as-many = refl; as-ended = refl }
+more id h (c ∷ cs) =
+    let e = eventOf h c in
+    let m = more id (e ∷ h) cs in
+    let Q = m .events in
+    record {
+      events = Q ++ (e ∷ []);
+      are = m .are ∙ sym (append-assoc Q (e ∷ []) h);
+      as-many = count-append isTick Q (e ∷ []) ∙ one (isTick e) (isTickCall c) (tick-is h c) (ticks Q) (count isTickCall cs) (m .as-many);
+      as-ended = any-append (ends id) Q (e ∷ []) ∙ or-comm (any (ends id) Q) (ends id e) ∙ ap₂ (λ a b. a || b) (ends-is id h c) (m .as-ended);
+    }
+  where
+    one : (a b : Bool) → a ≡ b → (n m : ℕ) → n ≡ m → n + cond a 1 0 ≡ cond b (suc m) m
+    one a b e n m is = rw e (cases b (λ f. rw f (omega arith)) (λ f. rw f (omega arith)))
+
+after-append : (t : List ℕ) (xs ys : List Call) → after t (xs ++ ys) ≡ after (after t xs) ys
+after-append t [] ys = refl
+after-append t (c ∷ xs) ys = after-append (outcome t c .table) xs ys
+
+accepted-append : (t : List ℕ) (xs ys : List Call) → acceptedIn t (xs ++ ys) ≡ acceptedIn t xs ++ acceptedIn (after t xs) ys
+accepted-append t [] ys = refl
+accepted-append t (c ∷ xs) ys =
+    let rest = accepted-append (outcome t c .table) xs ys in
+    cases (eqb (outcome t c .status) 0) (λ e. rw e (ap {B = List Call} (λ l. c ∷ l) rest)) (λ e. rw e rest)
+
+events-append : (h : List Event) (xs ys : List Call) → eventsOn h (xs ++ ys) ≡ eventsOn (eventsOn h xs) ys
+events-append h [] ys = refl
+events-append h (c ∷ xs) ys = events-append (eventOf h c ∷ h) xs ys
+
+-- ---- the nth tick
+
+-- A timer started for n ticks fires exactly at the nth accepted tick after that start, whatever the clock did: the calls before the start, the start,
+-- the calls after it, of which n - 1 are accepted ticks and none that is accepted ends the timer, and then an accepted tick.
+module _ (w : List ℕ) (n t : ℕ) (ok : outcome w (layOut n t) .status ≡ 0) (before later : List Call) (id k r u : ℕ) (list : List ℕ) where
+  abbrev pub atStart : List ℕ
+  atStart = after w (layOut n t ∷ before)
+
+  abbrev pub since : List Call
+  since = acceptedIn (outcome atStart (fireAfter id k r u) .table) later
+
+  abbrev pub whole : List Call
+  whole = before ++ (fireAfter id k r u ∷ later)
+
+  pub nth-tick-lists : outcome atStart (fireAfter id k r u) .status ≡ 0 → any (endsTimer id) since ≡ false → suc (count isTickCall since) ≡ k
+      → outcome (after w (layOut n t ∷ whole)) (tick list) .status ≡ 0
+      → (fired : List Fired) × Begins (outcome (after w (layOut n t ∷ whole)) (tick list) .list) list fired
+      × List·Memᴰ (record { id = id; routine = r; userData = u }) fired
+  nth-tick-lists started quiet nth ticked =
+      let es = eventsAfter w (layOut n t ∷ before) in
+      let s = changes id (some (forTicks id k r u)) in
+      let m = more id (s ∷ es) since in
+      tick-lists w n t ok whole list es (m .events) id id k r u ticked (events ∙ m .are) (m .as-ended ∙ quiet) (omega (arith, nth, m .as-many))
+    where
+      events : eventsAfter w (layOut n t ∷ whole)
+          ≡ eventsOn (changes id (some (forTicks id k r u)) ∷ eventsAfter w (layOut n t ∷ before)) since
+      events =
+          ap (eventsOn []) (accepted-append w (layOut n t ∷ before) (fireAfter id k r u ∷ later))
+          ∙ events-append [] (acceptedIn w (layOut n t ∷ before)) (acceptedIn atStart (fireAfter id k r u ∷ later))
+          ∙ ap (λ (b : Bool). eventsOn (eventsAfter w (layOut n t ∷ before)) (cond b (fireAfter id k r u ∷ since) since))
+          (eq-eqb (outcome atStart (fireAfter id k r u) .status) 0 started)
+
+-- ---- the clock
+
+-- neither a lay out nor a set clock
+abbrev pub leavesClock : Event → Bool
+leavesClock (laidOutFor t) = false
+leavesClock (changes i s) = true
+leavesClock (deletes i) = true
+leavesClock oneTick = true
+leavesClock (clockSetTo d) = false
+leavesClock nothing = true
+
+-- It stands, counted in ticks, at the seconds given in the latest set clock times T plus the accepted ticks since that one, up to its end.
+pub clock-runs : (d : ℕ) (Q P : List Event) → All (λ e. leavesClock e ≡ true) Q
+    → clockAfter 0 (Q ++ (clockSetTo d ∷ P)) ≡ some (min (d * perSecond P + ticks Q) (suc lastSecond * perSecond P - 1))
+clock-runs d Q P h = from 0 Q h ∙ ap {B = Option ℕ} (λ (k : ℕ). some (min k (suc lastSecond * perSecond P - 1))) (omega arith)
+  where
+    from : (k : ℕ) (Q : List Event) → All (λ e. leavesClock e ≡ true) Q
+        → clockAfter k (Q ++ (clockSetTo d ∷ P)) ≡ some (min (d * perSecond P + (ticks Q + k)) (suc lastSecond * perSecond P - 1))
+    from k [] h = ap {B = Option ℕ} (λ (m : ℕ). some (min m (suc lastSecond * perSecond P - 1))) (omega arith)
+    from k (laidOutFor t ∷ Q) h = clash (sym (h .0))
+    from k (changes i s ∷ Q) h = from k Q (h .1)
+    from k (deletes i ∷ Q) h = from k Q (h .1)
+    from k (oneTick ∷ Q) h =
+        from (suc k) Q (h .1) ∙ ap {B = Option ℕ} (λ (m : ℕ). some (min m (suc lastSecond * perSecond P - 1))) (omega arith)
+    from k (clockSetTo e ∷ Q) h = clash (sym (h .0))
+    from k (nothing ∷ Q) h = from k Q (h .1)

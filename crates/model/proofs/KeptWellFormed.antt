@@ -1,0 +1,285 @@
+-- Every accepted call leaves a well-formed state well formed, and fires no more timers than there are slots. The chains are kept in order by
+-- the parts of its work (Steps), each written slot has its shape (Shapes), the clock its bounds (ClockSteps). Assumes nothing.
+use mathlib.Core.Path.{_≡_, refl, sym, _∙_, subst}
+use Prim.Native.Nat.{ℕ, _≤_, _<_, zero-le}
+use native.Mathlib.Nat.{pos-of-ne-zero}
+use native.Mathlib.Omega.{arith}
+use mathlib.Core.Bool.{Bool, true, false, not}
+use mathlib.Core.List.{List, [], _∷_}
+use lib.ListN.{length, length-append}
+use lib.Dec.{leb, ltb, eqb}
+use borrow.Author.Tests.{ltb-true, eqb-true}
+use Rattle.calendar.specs.Calendar.{secondsOf, lastSecond}
+use Rattle.calendar.proofs.Theorems.{seconds-in-range}
+use Rattle.model.specs.Lists.{keep, place, All}
+use Rattle.model.specs.Status.{firstOf}
+use Rattle.model.specs.Calls.{Call, layOut, create, ident, cancel, delete, fireAfter, fireWhen, reset, ticksLeft, tick, setClock, getClock, isLayOut}
+use Rattle.model.specs.Kinds.{Chain, ByTicks, ByDate, Mode, After, When, kindAt, chainFor, sameChain, waitsIn, lastMode}
+use Rattle.model.specs.State.{Slot, Link, Clock, State, chainOf, withChain, withClock, free, slotAt, putAt, without, indexOf}
+use Rattle.model.specs.Directives.{refusals, lowestFree, laidOut, stored, neverStarted, stopped, idled, waitingAs, started, firedAll, due, fire, nearer, clockAt, clockStep, effect}
+use Rattle.model.proofs.ListLaws.{cases, clash, all-map, all-keep, all-passed, all-zip, all-place, length-keep}
+use Rattle.model.proofs.Slots.{put-any, length-put, length-firedAll, blank}
+use Rattle.model.proofs.WellFormed.{Chained, Shape, WellFormed}
+use Rattle.model.proofs.Chains.{fit-both}
+use Rattle.model.proofs.KindLaws.{stopped-not-in, timed-started, timed-mode}
+use Rattle.model.proofs.ClockSteps.{clock-isSet, clock-perSecond, clock-into, clock-last, clock-unset}
+use Rattle.model.proofs.Searches.{found}
+use Rattle.model.proofs.Shapes.{free-shape, never-started-shape, Some, waiting-shape, idle-shape, shape-firedAll}
+use Rattle.model.proofs.Steps.{with-chain-slots, with-chain-clock, with-chain-each, stored-chain, stopped-chain, length-laid, length-stored, length-stopped, length-started, length-fire, chained-stored, chained-stopped, chained-started, chained-fire, chained-nearer, chained-with-clock, chained-laid}
+use Rattle.model.proofs.AcceptedCalls.{Named, accepted-facts}
+
+-- ---- the parts of well-formedness
+
+record ClockFormed (c : Clock) : Type 0 where
+  per-low : 1 ≤ c .perSecond
+  per-high : c .perSecond ≤ 1000
+  into : c .ticksInto < c .perSecond
+  second-high : c .second ≤ lastSecond
+  unset : c .isSet ≡ false → (c .second ≡ 0) × (c .ticksInto ≡ 0)
+
+-- a number that may stand in chain k, at that time
+abbrev Ahead : Chain → Clock → ℕ → Type 0
+Ahead ByTicks c wait = 1 ≤ wait
+Ahead ByDate c wait = (c .isSet ≡ true) × (c .second < wait) × (wait ≤ lastSecond)
+
+abbrev AllAhead : Chain → Clock → List Link → Type 0
+AllAhead k c l = All (λ w. Ahead k c (w .wait)) l
+
+module _ (s : State) (h : WellFormed s) where
+  clock-formed : ClockFormed (s .clock)
+  clock-formed = record {
+    per-low = h .per-low;
+    per-high = h .per-high;
+    into = h .into;
+    second-high = h .second-high;
+    unset = λ e. (h .unset e .0, h .unset e .1);
+  }
+
+  all-ahead : (k : Chain) → AllAhead k (s .clock) (chainOf k s)
+  all-ahead ByTicks = h .ticks
+  all-ahead ByDate =
+      cases (s .clock .isSet)
+      (λ e. all-map (λ w p. (e, p .0, p .1)) (s .dated) (h .dates))
+      (λ e. subst (AllAhead ByDate (s .clock)) (sym (h .unset e .2)) tt)
+
+formed : (s : State) → Chained s → 1 ≤ length (s .slots) → ClockFormed (s .clock) → ((i : ℕ) → Shape (slotAt (s .slots) i))
+    → ((k : Chain) → AllAhead k (s .clock) (chainOf k s)) → WellFormed s
+formed s chained some clock shape ahead = record {
+  chained = chained;
+  some-slot = some;
+  per-low = clock .per-low;
+  per-high = clock .per-high;
+  into = clock .into;
+  second-high = clock .second-high;
+  unset = λ e. (clock .unset e .0, clock .unset e .1, no-dates (s .dated) e (ahead ByDate));
+  shape = shape;
+  ticks = ahead ByTicks;
+  dates = all-map (λ w p. (p .1, p .2)) (s .dated) (ahead ByDate);
+}
+  where
+    no-dates : (l : List Link) → s .clock .isSet ≡ false → AllAhead ByDate (s .clock) l → l ≡ []
+    no-dates [] e p = refl
+    no-dates (w ∷ ws) e p = clash (sym (p .0 .0) ∙ e)
+
+formed-with-chain : (k : Chain) (s : State) (slots : List Slot) (l : List Link)
+    → Chained (withChain k s slots l) → 1 ≤ length slots → ClockFormed (s .clock) → ((i : ℕ) → Shape (slotAt slots i)) → AllAhead k (s .clock) l
+    → ((j : Chain) → sameChain j k ≡ false → AllAhead j (s .clock) (chainOf j s)) → WellFormed (withChain k s slots l)
+formed-with-chain k s slots l chained some clock shape own rest =
+    formed (withChain k s slots l) chained (rw (with-chain-slots s slots l k) some) (rw (with-chain-clock s slots l k) clock)
+    (rw (with-chain-slots s slots l k) shape) (rw (with-chain-clock s slots l k) (with-chain-each s slots l (λ j. AllAhead j (s .clock)) k own rest))
+
+-- ---- lay out
+
+pub laid-well-formed : (n t : ℕ) → 1 ≤ n → n ≤ 255 → 1 ≤ t → t ≤ 1000 → WellFormed (laidOut n t)
+laid-well-formed n t n₁ n₂ t₁ t₂ =
+    formed (laidOut n t) (chained-laid n t n₂) (omega (arith, length-laid n t))
+    (record { per-low = t₁; per-high = t₂; into = t₁; second-high = zero-le; unset = λ e. (refl, refl) })
+    (λ i. rw (blank n i) free-shape) none
+  where
+    none : (k : Chain) → AllAhead k (laidOut n t .clock) (chainOf k (laidOut n t))
+    none ByTicks = tt
+    none ByDate = tt
+
+-- ---- slots written
+
+module _ (s : State) (h : WellFormed s) where
+  some-put : (i : ℕ) (x : Slot) → 1 ≤ length (putAt (s .slots) i x)
+  some-put i x = omega (arith, length-put (s .slots) i x, h .some-slot)
+
+  shape-put : (i : ℕ) (x : Slot) → Shape x → (j : ℕ) → Shape (slotAt (putAt (s .slots) i x) j)
+  shape-put i x hx j = put-any Shape (s .slots) i j x hx (h .shape j)
+
+  ahead-without : (k : Chain) (i : ℕ) → AllAhead k (s .clock) (without i (chainOf k s))
+  ahead-without k i = all-keep (λ w. Ahead k (s .clock) (w .wait)) (λ w. not (eqb (w .slot) i)) (chainOf k s) (all-ahead s h k)
+
+  formed-stored : (i : ℕ) (x : Slot) → 0 < i → i ≤ length (s .slots) → slotAt (s .slots) i .kind ≡ 0
+      → ((k : Chain) → waitsIn k (x .kind) ≡ false) → Shape x → WellFormed (stored s i x)
+  formed-stored i x low high e n hx =
+      formed (stored s i x) (chained-stored s (h .chained) i x low high e n) (some-put i x) (clock-formed s h) (shape-put i x hx)
+      (λ k. rw (stored-chain s i x k) (all-ahead s h k))
+
+  formed-stopped : (i : ℕ) (x : Slot) → 0 < i → i ≤ length (s .slots)
+      → ((k : Chain) → waitsIn k (x .kind) ≡ false) → Shape x → WellFormed (stopped s i x)
+  formed-stopped i x low high n hx =
+      formed (stopped s i x) (chained-stopped s (h .chained) i x low high n) (some-put i x) (clock-formed s h) (shape-put i x hx)
+      (λ k. rw (stopped-chain s i x k) (ahead-without k i))
+
+  formed-started : (m : Mode) (i amount r u : ℕ) → 0 < i → i ≤ length (s .slots) → 0 < slotAt (s .slots) i .name → 0 < r
+      → Some (chainFor m) amount → Ahead (chainFor m) (s .clock) amount → WellFormed (started m s i amount r u)
+  formed-started m i amount r u low high name routine some ahead =
+      let k = chainFor m in
+      let x : Slot = waitingAs m (slotAt (s .slots) i) amount r u in
+      let new : Link = record { slot = i; wait = amount } in
+      formed-with-chain k (stopped s i x) (putAt (s .slots) i x) (place (λ w. w .wait) new (chainOf k (stopped s i x)))
+      (chained-started m s (h .chained) i amount r u low high)
+      (some-put i x) (clock-formed s h)
+      (shape-put i x (waiting-shape m (slotAt (s .slots) i) amount r u name routine some))
+      (rw (stopped-chain s i x k) (all-place (λ w. Ahead k (s .clock) (w .wait)) (λ w. w .wait) new (without i (chainOf k s)) ahead (ahead-without k i)))
+      (λ j _. rw (stopped-chain s i x j) (ahead-without j i))
+
+-- ---- timers fired
+
+-- dated timers at or before the clock's second fire: the others are after it
+formed-fired : (s : State) → Chained s → 1 ≤ length (s .slots) → ClockFormed (s .clock) → ((i : ℕ) → Shape (slotAt (s .slots) i))
+    → ((k : Chain) → sameChain k ByDate ≡ false → AllAhead k (s .clock) (chainOf k s))
+    → All (λ w. (s .clock .isSet ≡ true) × (w .wait ≤ lastSecond)) (s .dated) → WellFormed (fire ByDate (s .clock .second) s)
+formed-fired s chained some clock shape rest dates =
+    let now = s .clock .second in
+    let after : Link → Bool = λ w. ltb now (w .wait) in
+    let later = keep after (s .dated) in
+    formed-with-chain ByDate s (firedAll (due ByDate now s) (s .slots)) later
+    (chained-fire ByDate now s chained) (omega (arith, length-firedAll (due ByDate now s) (s .slots))) clock
+    (shape-firedAll (due ByDate now s) (s .slots) shape)
+    (all-map (λ w p. (p .1 .0, ltb-true now (w .wait) (p .0), p .1 .1)) later
+    (all-zip (λ w. after w ≡ true) (λ w. (s .clock .isSet ≡ true) × (w .wait ≤ lastSecond)) later
+    (all-passed after (s .dated)) (all-keep (λ w. (s .clock .isSet ≡ true) × (w .wait ≤ lastSecond)) after (s .dated) dates)))
+    rest
+
+step-formed : (c : Clock) → ClockFormed c → ClockFormed (clockStep c)
+step-formed c h = record {
+  per-low = omega (arith, clock-perSecond c, h .per-low);
+  per-high = omega (arith, clock-perSecond c, h .per-high);
+  into = clock-into c (h .into);
+  second-high = clock-last c (h .second-high);
+  unset = λ e. let off = sym (clock-isSet c) ∙ e in rw (clock-unset c off) (h .unset off);
+}
+
+module _ (s : State) (h : WellFormed s) where
+  formed-ticked : (list : List ℕ) → WellFormed (effect s (tick list) .state)
+  formed-ticked list =
+      let near = nearer s in
+      let clock = clockStep (s .clock) in
+      formed-fired (withClock (fire ByTicks 0 near) clock)
+      (chained-with-clock (fire ByTicks 0 near) clock (chained-fire ByTicks 0 near (chained-nearer s (h .chained))))
+      (omega (arith, length-firedAll (due ByTicks 0 near) (s .slots), h .some-slot))
+      (step-formed (s .clock) (clock-formed s h))
+      (shape-firedAll (due ByTicks 0 near) (s .slots) (h .shape))
+      rest
+      (all-map (λ w p. (clock-isSet (s .clock) ∙ p .0, p .2)) (s .dated) (all-ahead s h ByDate))
+    where
+      rest : (k : Chain) → sameChain k ByDate ≡ false → AllAhead k (clockStep (s .clock)) (chainOf k (withClock (fire ByTicks 0 (nearer s)) (clockStep (s .clock))))
+      rest ByTicks e =
+          all-map (λ w p. ltb-true 0 (w .wait) p) (keep (λ w. ltb 0 (w .wait)) (nearer s .ticking)) (all-passed (λ w. ltb 0 (w .wait)) (nearer s .ticking))
+      rest ByDate e = clash e
+
+  formed-clock-set : (second : ℕ) → second ≤ lastSecond → WellFormed (fire ByDate second (withClock s (clockAt (s .clock) second 0)))
+  formed-clock-set second last =
+      let clock = clockAt (s .clock) second 0 in
+      formed-fired (withClock s clock) (chained-with-clock s clock (h .chained)) (h .some-slot)
+      (record { per-low = h .per-low; per-high = h .per-high; into = h .per-low; second-high = last; unset = λ e. clash e })
+      (h .shape) rest (all-map (λ w p. (refl, p .1)) (s .dated) (h .dates))
+    where
+      rest : (k : Chain) → sameChain k ByDate ≡ false → AllAhead k (clockAt (s .clock) second 0) (chainOf k (withClock s (clockAt (s .clock) second 0)))
+      rest ByTicks e = h .ticks
+      rest ByDate e = clash e
+
+  -- ---- every call
+
+  has-name : (id : ℕ) → Named s id → 0 < slotAt (s .slots) (indexOf id) .name
+  has-name id is = h .shape (indexOf id) .named (pos-of-ne-zero (is .alive))
+
+  module _ (words : List ℕ) where
+    pub kept : (c : Call) → firstOf (refusals words s c) ≡ 0 → WellFormed (effect s c .state)
+    kept (layOut n t) e =
+        let p = accepted-facts words s (layOut n t) e in
+        laid-well-formed n t (p .slots-low) (p .slots-high) (p .ticks-low) (p .ticks-high)
+    kept (create name) e =
+        let p = accepted-facts words s (create name) e in
+        let at = found (λ x. eqb (x .kind) 0) (s .slots) (p .1) in
+        formed-stored s h (lowestFree s) (neverStarted name) (at .low) (at .high) (eqb-true (slotAt (s .slots) (lowestFree s) .kind) 0 (at .passes))
+        (λ k. refl) (never-started-shape name (p .0))
+    kept (ident name) e = h
+    kept (cancel id) e =
+        let is = accepted-facts words s (cancel id) e in
+        let x = slotAt (s .slots) (indexOf id) in
+        formed-stopped s h (indexOf id) (idled x) (is .low) (is .high) (λ k. stopped-not-in k (x .kind)) (idle-shape x (h .shape (indexOf id)))
+    kept (delete id) e =
+        let is = accepted-facts words s (delete id) e in
+        formed-stopped s h (indexOf id) free (is .low) (is .high) (λ k. refl) free-shape
+    kept (fireAfter id n r u) e =
+        let p = accepted-facts words s (fireAfter id n r u) e in
+        let is = p .names-one in
+        formed-started s h After (indexOf id) n r u (is .low) (is .high) (has-name id is) (p .routine) (p .ticks) (p .ticks)
+    kept (fireWhen id w r u) e =
+        let p = accepted-facts words s (fireWhen id w r u) e in
+        let is = p .names-one in
+        formed-started s h When (indexOf id) (secondsOf w) r u (is .low) (is .high) (has-name id is) (p .routine) tt
+        (p .running, p .later, seconds-in-range w (p .is-valid))
+    kept (reset id) e =
+        let p = accepted-facts words s (reset id) e in
+        let is = p .0 in
+        let x = slotAt (s .slots) (indexOf id) in
+        let some = h .shape (indexOf id) .by-ticks (p .1) in
+        let by-ticks : chainFor (lastMode (x .kind)) ≡ ByTicks = timed-mode (kindAt (x .kind) .last) (p .1) in
+        formed-started s h (lastMode (x .kind)) (indexOf id) (x .interval) (x .routine) (x .userData) (is .low) (is .high) (has-name id is)
+        (h .shape (indexOf id) .used (timed-started (x .kind) (p .1))) (rw by-ticks some) (rw by-ticks some)
+    kept (ticksLeft id) e = h
+    kept (tick list) e = formed-ticked list
+    kept (setClock w list) e = formed-clock-set (secondsOf w) (seconds-in-range w (accepted-facts words s (setClock w list) e .1))
+    kept getClock e = h
+
+-- ---- what no call changes, and how many fire
+
+module _ (s : State) where
+  -- every call but lay out leaves as many slots as there were
+  pub slots-kept : (c : Call) → isLayOut c ≡ false → length (effect s c .state .slots) ≡ length (s .slots)
+  slots-kept (layOut n t) l = clash l
+  slots-kept (create name) l = length-stored s (lowestFree s) (neverStarted name)
+  slots-kept (ident name) l = refl
+  slots-kept (cancel id) l = length-stopped s (indexOf id) (idled (slotAt (s .slots) (indexOf id)))
+  slots-kept (delete id) l = length-stopped s (indexOf id) free
+  slots-kept (fireAfter id n r u) l = length-started After s (indexOf id) n r u
+  slots-kept (fireWhen id w r u) l = length-started When s (indexOf id) (secondsOf w) r u
+  slots-kept (reset id) l =
+      let x = slotAt (s .slots) (indexOf id) in
+      length-started (lastMode (x .kind)) s (indexOf id) (x .interval) (x .routine) (x .userData)
+  slots-kept (ticksLeft id) l = refl
+  slots-kept (tick list) l =
+      let clock = clockStep (s .clock) in
+      length-fire ByDate (clock .second) (withClock (fire ByTicks 0 (nearer s)) clock) ∙ length-fire ByTicks 0 (nearer s)
+  slots-kept (setClock w list) l = length-fire ByDate (secondsOf w) (withClock s (clockAt (s .clock) (secondsOf w) 0))
+  slots-kept getClock l = refl
+
+  -- no call fires more timers than there are slots
+  pub bound : WellFormed s → (c : Call) → length (effect s c .fired) ≤ length (s .slots)
+  bound h (layOut n t) = zero-le
+  bound h (create name) = zero-le
+  bound h (ident name) = zero-le
+  bound h (cancel id) = zero-le
+  bound h (delete id) = zero-le
+  bound h (fireAfter id n r u) = zero-le
+  bound h (fireWhen id w r u) = zero-le
+  bound h (reset id) = zero-le
+  bound h (ticksLeft id) = zero-le
+  bound h (tick list) =
+      let near = nearer s in
+      let second = clockStep (s .clock) .second in
+      omega (
+        arith,
+        fit-both near (chained-nearer s (h .chained)),
+        length-append (due ByTicks 0 near) (due ByDate second near),
+        length-keep (λ w. leb (w .wait) 0) (near .ticking),
+        length-keep (λ w. leb (w .wait) second) (near .dated),
+      )
+  bound h (setClock date list) = omega (arith, fit-both s (h .chained), length-keep (λ w. leb (w .wait) (secondsOf date)) (s .dated))
+  bound h getClock = zero-le

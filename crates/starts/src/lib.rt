@@ -1,0 +1,93 @@
+// The calls that start timers: for some ticks, for a date, and again. Their contracts are as those of crate `timer`.
+ghost use mathlib.Core.Path.{_≡_};
+ghost use mathlib.Core.List.{[]};
+ghost use Rattle.model.specs.Kinds.{lastByTicks};
+ghost use Rattle.model.specs.Calls as call;
+ghost use Rattle.model.specs.Outcome.{outcomeOf, outcome};
+ghost use Rattle.answers.specs.Answers.{statusOf, answerOf};
+use answers::Answer;
+use calendar::Instant;
+use calendar::WallTime;
+use links::start;
+use model::Mode;
+use model::Status;
+use opening::open_timer;
+use slots::named;
+use soundness::is_sound;
+use table::*;
+
+// The kind is of a timer last started by interval, idle or waiting.
+fn was_by_ticks(kind: u32) -> bool
+    ensures { λ r. ⌜ r ≡ lastByTicks kind ⌝ }
+{
+    if kind == IDLE_TICKS {
+        return true;
+    }
+    kind == WAITING_TICKS
+}
+
+// A timer waits for so many ticks from now, behind every timer due at the same tick.
+pub fn fire_after(table: &mut [u32], id: u32, ticks: u32, routine: u32, user_data: u32) -> Answer
+    ensures { λ r. ⌜ outcomeOf (statusOf r) (answerOf r) (now (table .exit)) [] ≡ outcome (now (table .entry)) (call.fireAfter id ticks routine user_data) ⌝ }
+{
+    if !is_sound(table) {
+        return Answer::Refused(Status::NotSound);
+    }
+    if ticks == 0 {
+        return Answer::Refused(Status::InvalidNumber);
+    }
+    if routine == 0 {
+        return Answer::Refused(Status::InvalidAddress);
+    }
+    let i = named(table, id);
+    if i == 0 {
+        return Answer::Refused(Status::InvalidId);
+    }
+    start(table, Mode::After, i, ticks, routine, user_data);
+    Answer::Done(0)
+}
+
+// A timer waits for a date, behind every timer due at the same date.
+pub fn fire_when(table: &mut [u32], id: u32, when: WallTime, routine: u32, user_data: u32) -> Answer
+    ensures { λ r. ⌜ outcomeOf (statusOf r) (answerOf r) (now (table .exit)) [] ≡ outcome (now (table .entry)) (call.fireWhen id when routine user_data) ⌝ }
+{
+    if !is_sound(table) {
+        return Answer::Refused(Status::NotSound);
+    }
+    if table[CLOCK_SET] != 1 {
+        return Answer::Refused(Status::NotDefined);
+    }
+    if routine == 0 {
+        return Answer::Refused(Status::InvalidAddress);
+    }
+    let Instant::Second(date) = calendar::to_seconds(when) else {
+        return Answer::Refused(Status::InvalidClock);
+    };
+    if date <= table[SECONDS] {
+        return Answer::Refused(Status::InvalidClock);
+    }
+    let i = named(table, id);
+    if i == 0 {
+        return Answer::Refused(Status::InvalidId);
+    }
+    start(table, Mode::When, i, date, routine, user_data);
+    Answer::Done(0)
+}
+
+// A timer last started by interval starts again with the interval, routine and data that it has stored.
+pub fn reset(table: &mut [u32], id: u32) -> Answer
+    ensures { λ r. ⌜ outcomeOf (statusOf r) (answerOf r) (now (table .exit)) [] ≡ outcome (now (table .entry)) (call.reset id) ⌝ }
+{
+    let opened = open_timer(table, id);
+    let Answer::Done(i) = opened else {
+        return opened;
+    };
+    if !was_by_ticks(get(table, i, KIND)) {
+        return Answer::Refused(Status::NotDefined);
+    }
+    let ticks = get(table, i, INTERVAL);
+    let routine = get(table, i, ROUTINE);
+    let user_data = get(table, i, DATA);
+    start(table, Mode::After, i, ticks, routine, user_data);
+    Answer::Done(0)
+}

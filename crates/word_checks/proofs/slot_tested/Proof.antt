@@ -1,0 +1,94 @@
+-- `word_checks::slot_tested` meets its contract: at each kind the tests that the definition has left are those that the code makes.
+-- Assumes nothing.
+use mathlib.Core.Path.{_∙_}
+use native.Mathlib.Omega.{arith}
+use Rattle.model.specs.declared.Chain.the-variants.{ByTicks, ByDate}
+use Rattle.word_checks.proofs.BooleanTests.{passed, failed}
+use Rattle.word_checks.proofs.SlotTests.{kind-fails, blank-fails, name-fails, routine-fails, links-fail, free-name, new-name, waiting-ticks, waiting-date, idle-interval}
+use borrow.Author.Needs.{needs}
+use Rattle.word_checks.proofs.slot_tested.Statement.{statement}
+use Rattle.word_checks.proofs.slot_tested.Tie as tie
+
+get-requires : tie.Need-get-requires
+get-requires c κs = search needs
+
+get-requires-2 : tie.Need-get-requires-2
+get-requires-2 c κs = search needs
+
+is-blank-requires : tie.Need-is-blank-requires
+is-blank-requires c κs = search needs
+
+returns : tie.Need-returns
+returns c = blank-fails _ _ (omega arith) (failed (c .before .is-blank .ensures) (c .if2 .taken))
+
+returns-2 : tie.Need-returns-2
+returns-2 c =
+    let b = c .before .before in
+    rw (b .before .before .get2 .ensures) (free-name _ _ (omega arith) (passed (b .is-blank .ensures) (c .before .if2 .left)))
+
+returns-3 : tie.Need-returns-3
+returns-3 c =
+    let b = c .before .before in
+    rw (b .before .before .get2 .ensures) (new-name _ _ (omega arith) (passed (b .is-blank .ensures) (c .before .if2 .left)))
+
+returns-4 : tie.Need-returns-4
+returns-4 c = name-fails _ _ (omega arith) (omega arith)
+
+get-requires-3 : tie.Need-get-requires-3
+get-requires-3 c κs = search needs
+
+returns-5 : tie.Need-returns-5
+returns-5 c = routine-fails _ _ (omega arith) (omega arith)
+
+returns-6 : tie.Need-returns-6
+returns-6 c = waiting-ticks _ _ (omega arith) (omega arith) (omega arith)
+
+get-requires-4 : tie.Need-get-requires-4
+get-requires-4 c κs = search needs
+
+returns-7 : tie.Need-returns-7
+returns-7 c = rw (c .before .get4 .ensures) (waiting-date _ _ (omega arith) (omega arith) (omega arith))
+
+is-unlinked-requires : tie.Need-is-unlinked-requires
+is-unlinked-requires c κs = search needs
+
+returns-8 : tie.Need-returns-8
+returns-8 c =
+    let kind = c .before .before .before .before .before .before .before .before .before .before .get .ensures in
+    links-fail _ _ (λ e. c .before .before .before .before .if6 .left (kind ∙ e)) (λ e. c .before .before .if7 .left (kind ∙ e))
+    (failed (c .before .is-unlinked .ensures) (c .if8 .taken))
+
+returns-9 : tie.Need-returns-9
+returns-9 c =
+    let links = passed (c .before .before .is-unlinked .ensures) (c .before .if8 .left) in
+    rw (c .before .before .before .before .get4 .ensures) (idle-interval _ _ ByTicks (omega arith) (omega arith) (omega arith) links)
+
+returns-10 : tie.Need-returns-10
+returns-10 c =
+    let links = passed (c .before .before .before .is-unlinked .ensures) (c .before .before .if8 .left) in
+    rw (c .before .before .before .before .before .get4 .ensures) (idle-interval _ _ ByDate (omega arith) (omega arith) (omega arith) links)
+
+returns-11 : tie.Need-returns-11
+returns-11 c = kind-fails _ _ (omega arith)
+
+pub slot-tested-spec : {M : Type 1} → statement M
+slot-tested-spec =
+    tie.close
+    (tie.spec
+    get-requires
+    get-requires-2
+    is-blank-requires
+    returns
+    returns-2
+    returns-3
+    returns-4
+    get-requires-3
+    returns-5
+    returns-6
+    get-requires-4
+    returns-7
+    is-unlinked-requires
+    returns-8
+    returns-9
+    returns-10
+    returns-11)

@@ -1,0 +1,129 @@
+// The words of the header, and those of a slot, tested by themselves: the parts of the soundness check that follow no link.
+ghost use mathlib.Core.Path.{_≡_};
+ghost use mathlib.Core.Bool.{_&&_};
+ghost use Prim.Native.Nat.{_+_, _*_, _≤_};
+ghost use lib.ListN.{length};
+ghost use Rattle.model.specs.Sound.{headerSound, unlinked, unstarted};
+ghost use Rattle.word_checks.specs.Tested.{allZero, slotTested};
+use calendar::LAST_SECOND;
+use table::*;
+
+// All three are zero: one test for three words.
+fn all_zero(a: u32, b: u32, c: u32) -> bool
+    ensures { λ r. ⌜ r ≡ allZero a b c ⌝ }
+{
+    (a | b | c) == 0
+}
+
+// All six are zero.
+fn all_six_zero(a: u32, b: u32, c: u32, d: u32, e: u32, f: u32) -> bool
+    ensures { λ r. ⌜ r ≡ (allZero a b c && allZero d e f) ⌝ }
+{
+    (a | b | c | d | e | f) == 0
+}
+
+// The header, and the slice is as long as the header says.
+pub fn header_sound(t: &[u32]) -> bool
+    ensures { λ r. ⌜ r ≡ headerSound (now (t .entry)) ⌝ }
+{
+    if t.len() < HEADER {
+        return false;
+    }
+    let n = t[SLOT_COUNT];
+    let per_second = t[TICKS_PER_SECOND];
+    if n < 1 {
+        return false;
+    }
+    if MOST_SLOTS < n {
+        return false;
+    }
+    if t.len() < HEADER + SLOT * (n as usize) {
+        return false;
+    }
+    if per_second < 1 {
+        return false;
+    }
+    if MOST_TICKS < per_second {
+        return false;
+    }
+    if 1 < t[CLOCK_SET] {
+        return false;
+    }
+    if LAST_SECOND < t[SECONDS] {
+        return false;
+    }
+    if per_second <= t[TICKS] {
+        return false;
+    }
+    if !all_zero(t[SPARE_7], t[SPARE_8], t[SPARE_9]) {
+        return false;
+    }
+    if t[CLOCK_SET] == 1 {
+        return true;
+    }
+    all_zero(t[SECONDS], t[TICKS], t[FIRST_DATED])
+}
+
+// Wait, next and previous of slot i are zero.
+fn is_unlinked(t: &[u32], i: u32) -> bool
+    requires { ⌜ 8 * i + 10 ≤ length (now t) ⌝ }
+    ensures { λ r. ⌜ r ≡ unlinked (now (t .entry)) i ⌝ }
+{
+    all_zero(get(t, i, WAIT), get(t, i, NEXT), get(t, i, PREVIOUS))
+}
+
+// Interval, routine and user data of slot i are zero, and wait, next and previous.
+fn is_blank(t: &[u32], i: u32) -> bool
+    requires { ⌜ 8 * i + 10 ≤ length (now t) ⌝ }
+    ensures { λ r. ⌜ r ≡ (unstarted (now (t .entry)) i && unlinked (now (t .entry)) i) ⌝ }
+{
+    all_six_zero(
+        get(t, i, INTERVAL),
+        get(t, i, ROUTINE),
+        get(t, i, DATA),
+        get(t, i, WAIT),
+        get(t, i, NEXT),
+        get(t, i, PREVIOUS),
+    )
+}
+
+// The words of slot i, by its kind. The wait and the links of a waiting slot are left to the walks, and so is the interval of kind 4.
+pub fn slot_tested(t: &[u32], i: u32) -> bool
+    requires { ⌜ 8 * i + 10 ≤ length (now t) ⌝ }
+    ensures { λ r. ⌜ r ≡ slotTested (now (t .entry)) i ⌝ }
+{
+    let kind = get(t, i, KIND);
+    let name = get(t, i, NAME);
+    if kind <= NEVER_STARTED {
+        if !is_blank(t, i) {
+            return false;
+        }
+        if kind == FREE {
+            return name == 0;
+        }
+        return 0 < name;
+    }
+    if name < 1 {
+        return false;
+    }
+    if get(t, i, ROUTINE) < 1 {
+        return false;
+    }
+    if kind == WAITING_TICKS {
+        return true;
+    }
+    let interval = get(t, i, INTERVAL);
+    if kind == WAITING_DATE {
+        return interval == 0;
+    }
+    if !is_unlinked(t, i) {
+        return false;
+    }
+    if kind == IDLE_TICKS {
+        return 0 < interval;
+    }
+    if kind == IDLE_DATE {
+        return interval == 0;
+    }
+    false
+}
