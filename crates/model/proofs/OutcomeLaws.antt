@@ -1,18 +1,18 @@
 -- The outcome of a call from its status: where no rule applies it is what the call does, where one does it is that refusal. Assumes nothing.
 use mathlib.Core.Path.{_≡_, refl, sym, ap, _∙_}
 use Prim.Native.Nat.{ℕ}
-use native.Mathlib.Omega.{arith}
 use mathlib.Core.Bool.{Bool, cond, not}
 use mathlib.Core.List.{List}
 use lib.Dec.{eqb}
 use borrow.Author.Tests.{eqb-true, eqb-false, eq-eqb, ne-eqb}
-use Rattle.model.specs.Status.{Status, InvalidName, InvalidId, TooMany, InvalidSize, InvalidAddress, InvalidNumber, NotDefined, InvalidClock, NotSound, ListTooShort, numberOf, firstOf}
+use Rattle.model.specs.Status.{Status, numberOf, firstOf}
 use Rattle.model.specs.Calls.{Call}
 use Rattle.model.specs.Directives.{refusals}
 use Rattle.model.specs.Words.{read}
 use Rattle.model.specs.Sound.{sound}
 use Rattle.model.specs.Outcome.{Outcome, statusOn, refused, accepted, outcome}
 use Rattle.model.proofs.ListLaws.{cases}
+use Rattle.model.proofs.StatusLaws.{not-zero}
 
 pub status-is : (t : List ℕ) (c : Call) → statusOn t c ≡ firstOf (refusals (not (sound t)) (read t) c)
 unfolding statusOn
@@ -37,15 +37,3 @@ module _ (t : List ℕ) (c : Call) where
   pub refused-by : (s : Status) → statusOn t c ≡ numberOf s → outcome t c ≡ refused (numberOf s) t c
   refused-by s e =
       outcome-refused (λ z. not-zero s (sym e ∙ z)) ∙ ap (λ (n : ℕ). refused n t c) e
-    where
-      not-zero : (s : Status) → numberOf s ≡ 0 → ⊥
-      not-zero InvalidName z = omega arith
-      not-zero InvalidId z = omega arith
-      not-zero TooMany z = omega arith
-      not-zero InvalidSize z = omega arith
-      not-zero InvalidAddress z = omega arith
-      not-zero InvalidNumber z = omega arith
-      not-zero NotDefined z = omega arith
-      not-zero InvalidClock z = omega arith
-      not-zero NotSound z = omega arith
-      not-zero ListTooShort z = omega arith
