@@ -79,15 +79,16 @@ Firsts first ps = All (λ q. getD first (q .bench) 0 ≤ q .from) ps
 pub firsts-of : (first : List ℕ) (p : Booking) (ps : List Booking) → Firsts first ps → All (λ q. p .bench ≡ q .bench → getD first (p .bench) 0 ≤ q .from) ps
 firsts-of first p ps h = all-map (λ q g e. omega (arith, g, ap (λ (b : ℕ). getD first b 0) e)) ps h
 
-pub lowered : (first : List ℕ) (p : Booking) (n : ℕ) (ps : List Booking) → p .bench < length first → n ≤ getD first (p .bench) 0 → n ≤ p .from
-    → Firsts first ps → Firsts (set first (p .bench) n) (p ∷ ps)
-lowered first p n ps in-range low from h =
-    (omega (arith, getD-set-same first (p .bench) n 0 in-range), all-map other ps h)
+-- where a job starts earlier, its start takes the number's place
+pub lowered : (first : List ℕ) (p : Booking) (ps : List Booking) → p .bench < length first → p .from ≤ getD first (p .bench) 0 → Firsts first ps
+    → Firsts (set first (p .bench) (p .from)) (p ∷ ps)
+lowered first p ps in-range low h =
+    (omega (arith, getD-set-same first (p .bench) (p .from) 0 in-range), all-map other ps h)
   where
-    other : (q : Booking) → getD first (q .bench) 0 ≤ q .from → getD (set first (p .bench) n) (q .bench) 0 ≤ q .from
+    other : (q : Booking) → getD first (q .bench) 0 ≤ q .from → getD (set first (p .bench) (p .from)) (q .bench) 0 ≤ q .from
     other q g =
         cases (eqb (q .bench) (p .bench))
         (λ e.
         let same = eqb-true (q .bench) (p .bench) e in
-        rw same (omega (arith, getD-set-same first (p .bench) n 0 in-range, ap (λ (b : ℕ). getD first b 0) same)))
-        (λ e. omega (arith, g, getD-set-other first (p .bench) (q .bench) n 0 (eqb-false (q .bench) (p .bench) e)))
+        rw same (omega (arith, getD-set-same first (p .bench) (p .from) 0 in-range, ap (λ (b : ℕ). getD first b 0) same)))
+        (λ e. omega (arith, g, getD-set-other first (p .bench) (q .bench) (p .from) 0 (eqb-false (q .bench) (p .bench) e)))

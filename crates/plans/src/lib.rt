@@ -159,12 +159,6 @@ fn clear_of(jobs: &[u32], starts: &[u32], k: usize, p: Booking, earliest: u64) -
     true
 }
 
-fn earlier(x: u64, y: u64) -> u64
-    ensures { λ r. ⌜ (r ≤ x) × (r ≤ y) ⌝ }
-{
-    if x < y { x } else { y }
-}
-
 // Every job ends by the end of the break and no two of one bench overlap. The jobs are taken from the last to the first; `earliest` has the
 // earliest start so far of each bench, so that jobs which stand in the order of their starts need no search.
 fn all_fit(jobs: &[u32], end: u32, starts: &[u32]) -> bool
@@ -185,7 +179,9 @@ fn all_fit(jobs: &[u32], end: u32, starts: &[u32]) -> bool
         if !clear_of(jobs, starts, left, p, next) {
             return false;
         }
-        earliest[bench] = earlier(next, p.from);
+        if p.from < next {
+            earliest[bench] = p.from;
+        }
         left = i;
     }
     true

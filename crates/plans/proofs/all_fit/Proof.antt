@@ -102,33 +102,50 @@ returns-2 c =
     rejected (a .end) (a .jobs .now) (a .starts .now) (pairs start) (l .left - 1) (omega arith)
     (rw (here (c .before .before .before .before .before)) (not-clear (a .end) p later hit))
 
-earlier-requires : tie.Need-earlier-requires Inv-loop μ-loop
-earlier-requires c κs = search needs
-
 mul-earliest : tie.Need-mul-earliest Inv-loop μ-loop
-mul-earliest c = omega (arith, bench-to (c .before .before .before .before .before .before))
+mul-earliest c = omega (arith, bench-to (c .before .before .before .before .before .before .before))
 
 array-write-earliest : tie.Need-array-write-earliest Inv-loop μ-loop
-array-write-earliest c = bench-to (c .before .before .before .before .before .before)
+array-write-earliest c = bench-to (c .before .before .before .before .before .before .before)
+
+-- the job ends in time and is clear of those that are not left
+next-accepted : (c : tie.Else2 Inv-loop μ-loop)
+    → let a = c .before .before .before .before .before .before .before .before .before .before .before .args in
+    let left = c .before .before .before .before .before .before .before .loop .left in
+    accepts (a .end) (bookedFrom (a .jobs .now) (a .starts .now) (left - 1)) ≡ true
+next-accepted c =
+    let placing = c .before .before .before .before .before in
+    let a = placing .before .before .before .before .before .before .args in
+    let l = placing .before .before .loop in
+    let p = placing .booked-at .result in
+    let later = bookedFrom (a .jobs .now) (a .starts .now) (l .left) in
+    let clear = passed {b = every (clearOf p) later} (c .before .clear-of .ensures) (c .if2 .left) in
+    rw (here placing) (one-more (a .end) p later (le-leb (p .to) (a .end) (omega arith)) clear (l .inv .2))
 
 loop-less : tie.Need-loop-less Inv-loop μ-loop
 loop-less c = omega arith
 
 loop-again : tie.Need-loop-again Inv-loop μ-loop
 loop-again c =
-    let placing = c .before .before .before .before .before .before in
+    let placing = c .before .before .before .before .before .before .before in
     let a = placing .before .before .before .before .before .before .args in
     let l = placing .before .before .loop in
     let p = placing .booked-at .result in
-    let later = bookedFrom (a .jobs .now) (a .starts .now) (l .left) in
-    let r = c .before .before .clear-of in
-    let clear = passed {b = every (clearOf p) later} (r .ensures) (c .before .if2 .left) in
-    let timely = le-leb (p .to) (a .end) (omega arith) in (
+    let later = bookedFrom (a .jobs .now) (a .starts .now) (l .left) in (
       omega arith,
-      length-set (l .earliest) (p .bench) (c .earlier .result) ∙ l .inv .1,
-      rw (here placing) (one-more (a .end) p later timely clear (l .inv .2)),
-      rw (here placing) (lowered (l .earliest) p (c .earlier .result) later (omega (arith, bench-to placing)) (omega arith) (omega arith) (l .inv .3)),
+      length-set (l .earliest) (p .bench) (p .from) ∙ l .inv .1,
+      next-accepted (c .before .before),
+      rw (here placing) (lowered (l .earliest) p later (omega (arith, bench-to placing)) (omega arith) (l .inv .3)),
     )
+
+loop-less-2 : tie.Need-loop-less-2 Inv-loop μ-loop
+loop-less-2 c = omega arith
+
+loop-again-2 : tie.Need-loop-again-2 Inv-loop μ-loop
+loop-again-2 c =
+    let placing = c .before .before .before .before .before .before .before in
+    let l = placing .before .before .loop in
+    (omega arith, l .inv .1, next-accepted (c .before .before), rw (here placing) (omega arith, l .inv .3))
 
 returns-3 : tie.Need-returns-3 Inv-loop μ-loop
 returns-3 c =
@@ -153,9 +170,10 @@ all-fit-spec =
     array-read-next
     clear-of-requires
     returns-2
-    earlier-requires
     mul-earliest
     array-write-earliest
     loop-less
     loop-again
+    loop-less-2
+    loop-again-2
     returns-3)
