@@ -94,6 +94,7 @@ module _ (words : List ℕ) (end : ℕ) where
     exact =
         record {
           accepted = λ e. ap (checked words end) (list-then e) ∙ says .some e;
+          found = λ long starts ok. plan-some (good words end starts ok .limits) long (any-plan starts ok);
           none = λ e starts ok. says .none e (any-plan starts ok);
           only = λ limits long no. plan-none limits long (no (proposal words));
         }

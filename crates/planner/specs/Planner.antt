@@ -47,9 +47,10 @@ planned words end list =
 abbrev pub NoPlan : List ℕ → ℕ → Type 0
 NoPlan words end = (starts : List ℕ) → checked words end starts ≡ 0 → ⊥
 
--- What a status and the list after the call say of every plan, whichever the planner makes: the starts that it wrote are accepted, and it "refuses
--- with 13 exactly if no accepted plan exists", where no rule before applies.
+-- What a status and the list after the call say of every plan, whichever the planner makes: the starts that it wrote are accepted, a plan is found
+-- wherever there is one, and it "refuses with 13 exactly if no accepted plan exists", where no rule before applies.
 pub record Exact (words : List ℕ) (end : ℕ) (list : List ℕ) (status : ℕ) (after : List ℕ) : Type 0 where
   pub accepted : status ≡ 0 → checked words end (take (length (jobsOf words)) after) ≡ 0
+  pub found : length (jobsOf words) ≤ length list → (starts : List ℕ) → checked words end starts ≡ 0 → status ≡ 0
   pub none : status ≡ 13 → NoPlan words end
   pub only : withinLimits words end ≡ true → length (jobsOf words) ≤ length list → NoPlan words end → status ≡ 13

@@ -34,6 +34,9 @@ cases =
     ∷ plan (1 ∷ 3 ∷ 1 ∷ 4 ∷ []) 7 (0 ∷ 2 ∷ []) 13
     ∷ plan (1 ∷ 3 ∷ 1 ∷ 4 ∷ []) 7 (4 ∷ 0 ∷ []) 0
     ∷ plan (1 ∷ 3 ∷ 1 ∷ 4 ∷ []) 7 (3 ∷ 0 ∷ []) 13
+    -- the second of three jobs and the third
+    ∷ plan (2 ∷ 1 ∷ 2 ∷ 2 ∷ 2 ∷ 2 ∷ []) 5 (0 ∷ 1 ∷ 3 ∷ []) 0
+    ∷ plan (2 ∷ 1 ∷ 2 ∷ 2 ∷ 2 ∷ 2 ∷ []) 5 (0 ∷ 1 ∷ 2 ∷ []) 13
     -- one job within another, and two at one tick
     ∷ plan (4 ∷ 9 ∷ 4 ∷ 1 ∷ []) 9 (0 ∷ 4 ∷ []) 13
     ∷ plan (4 ∷ 1 ∷ 4 ∷ 9 ∷ []) 9 (4 ∷ 0 ∷ []) 13

@@ -133,7 +133,7 @@ loop-again c =
     let p = placing .booked-at .result in
     let later = bookedFrom (a .jobs .now) (a .starts .now) (l .left) in (
       omega arith,
-      length-set (l .earliest) (p .bench) (p .from) ∙ l .inv .1,
+      simp length-set (l .inv .1),
       next-accepted (c .before .before),
       rw (here placing) (lowered (l .earliest) p later (omega (arith, bench-to placing)) (omega arith) (l .inv .3)),
     )
