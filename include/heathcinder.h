@@ -1,6 +1,6 @@
 /* Heathcinder: a timer manager over a table of 32-bit words that the caller lends.
  *
- * The library keeps nothing of its own: all there is to know stands in the table. Every call but hc_lay_out
+ * The library keeps nothing of its own: all there is to know stands in the table. Every call on a table but hc_lay_out
  * begins by checking that the table is sound, and a refused call changes no word of table or list.
  *
  * The table: a header of 10 words, then 8 words for each slot. Slot indexes run from 1; link 0 means none.
@@ -35,9 +35,9 @@
  *   - A length is true: that many words may be read, and written where the pointer is not to const.
  *   - The table, the fired list, the wall time and the word for an answer do not overlap.
  *   - Nobody else reads or writes them during a call: where an interrupt makes calls on the same table, keep it out.
- *   - There is stack: hc_ticks_left takes 32 bytes for each timer ahead of its own, 8.2 KB at most, the other calls some
- *     300 bytes. The code is for x86-64, uses SSE registers and the red zone, and needs memset; it allocates nothing
- *     and has no data of its own.
+ *   - There is stack: hc_ticks_left takes 32 bytes for each timer ahead of its own, 8.2 KB at most, hc_plan some 800 bytes,
+ *     the other calls some 300. The code is for x86-64, uses SSE registers and the red zone, and needs memset and memcpy;
+ *     it allocates nothing and has no data of its own.
  */
 #ifndef HEATHCINDER_H
 #define HEATHCINDER_H
