@@ -1,4 +1,5 @@
--- What the planner's loop comes to: for each bench the ticks of the jobs ahead, and the starts made so far. Assumes nothing.
+-- What the planner's two loops come to: for each bench the ticks of the jobs ahead, and the starts made so far; then the starts stored one by one.
+-- Assumes nothing.
 use mathlib.Core.Path.{_≡_, refl, sym, ap, _∙_}
 use Prim.Native.Nat.{ℕ, suc, _+_, _*_, _≤_, _<_}
 use native.Mathlib.Numerals.{add-one}
@@ -41,51 +42,51 @@ module _ (words : List ℕ) (i : ℕ) (starts ends : List ℕ) (w : Proposing wo
     abbrev job : Job
     job = jobAt words i
 
-    abbrev end : ℕ
-    end = getD ends (job .bench) 0
+    abbrev start : ℕ
+    start = getD ends (job .bench) 0
 
-    own : getD (set ends (job .bench) (end + job .ticks)) (job .bench) 0 ≡ end + job .ticks
-    own = getD-set-same ends (job .bench) (end + job .ticks) 0 (omega (arith, ok .bench-to, w .benches))
+    own : getD (set ends (job .bench) (start + job .ticks)) (job .bench) 0 ≡ start + job .ticks
+    own = getD-set-same ends (job .bench) (start + job .ticks) 0 (omega (arith, ok .bench-to, w .benches))
 
-    other : (b : ℕ) → (b ≡ job .bench → ⊥) → getD (set ends (job .bench) (end + job .ticks)) b 0 ≡ getD ends b 0
-    other b n = getD-set-other ends (job .bench) b (end + job .ticks) 0 n
+    other : (b : ℕ) → (b ≡ job .bench → ⊥) → getD (set ends (job .bench) (start + job .ticks)) b 0 ≡ getD ends b 0
+    other b n = getD-set-other ends (job .bench) b (start + job .ticks) 0 n
 
-    free-next : (b : ℕ) → b < 5 → getD (set ends (job .bench) (end + job .ticks)) b 0 ≡ ticksOn b (job ∷ w .ahead)
+    free-next : (b : ℕ) → b < 5 → getD (set ends (job .bench) (start + job .ticks)) b 0 ≡ ticksOn b (job ∷ w .ahead)
     free-next b h =
         cases (eqb (job .bench) b)
         (λ e.
         let same = eqb-true (job .bench) b e in
-        rw e (ap (λ (k : ℕ). getD (set ends (job .bench) (end + job .ticks)) k 0) (sym same) ∙ own ∙ omega (arith, w .free b h, ap (λ (k : ℕ). getD ends k 0) same)))
+        rw e (ap (λ (k : ℕ). getD (set ends (job .bench) (start + job .ticks)) k 0) (sym same) ∙ own ∙ omega (arith, w .free b h, ap (λ (k : ℕ). getD ends k 0) same)))
         (λ e. rw e (other b (λ f. eqb-false (job .bench) b e (sym f)) ∙ w .free b h))
 
-    low-next : (b : ℕ) → b < 5 → getD (set ends (job .bench) (end + job .ticks)) b 0 ≤ 1000000 * (i + 1)
+    low-next : (b : ℕ) → b < 5 → getD (set ends (job .bench) (start + job .ticks)) b 0 ≤ 1000000 * (i + 1)
     low-next b h =
         cases (eqb (job .bench) b)
         (λ e.
         let same = eqb-true (job .bench) b e in
-        let this = ap (λ (k : ℕ). getD (set ends (job .bench) (end + job .ticks)) k 0) same in
+        let this = ap (λ (k : ℕ). getD (set ends (job .bench) (start + job .ticks)) k 0) same in
         omega (arith, own, this, w .low b h, ap (λ (k : ℕ). getD ends k 0) same, ok .ticks-to))
         (λ e. omega (arith, other b (λ f. eqb-false (job .bench) b e (sym f)), w .low b h))
 
-    made-next : take (i + 1) (set starts i end) ++ backToBack (job ∷ w .ahead) (jobsOf (drop (2 * (i + 1)) words)) ≡ proposal words
+    made-next : take (i + 1) (set starts i start) ++ backToBack (job ∷ w .ahead) (jobsOf (drop (2 * (i + 1)) words)) ≡ proposal words
     made-next =
         let later = jobsOf (drop (2 * (i + 1)) words) in
-        let first : take (i + 1) (set starts i end) ≡ take i starts ++ (end ∷ []) =
-        ap (λ (k : ℕ). take k (set starts i end)) (add-one i) ∙ take-suc-set starts i end (omega (arith, w .room)) in
+        let first : take (i + 1) (set starts i start) ≡ take i starts ++ (start ∷ []) =
+        ap (λ (k : ℕ). take k (set starts i start)) (add-one i) ∙ take-suc-set starts i start (omega (arith, w .room)) in
         let at = w .free (job .bench) (omega (arith, ok .bench-to)) in
         let this : job ∷ later ≡ jobsOf (drop (2 * i) words) = sym (jobs-from words i here) in
         ap (λ (l : List ℕ). l ++ backToBack (job ∷ w .ahead) later) first
-        ∙ append-snoc (take i starts) end (backToBack (job ∷ w .ahead) later)
+        ∙ append-snoc (take i starts) start (backToBack (job ∷ w .ahead) later)
         ∙ ap (λ (n : ℕ). take i starts ++ n ∷ backToBack (job ∷ w .ahead) later) at
         ∙ ap (λ (js : List Job). take i starts ++ backToBack (w .ahead) js) this
         ∙ w .made
 
-    pub next : Proposing words (i + 1) (set starts i end) (set ends (job .bench) (end + job .ticks))
+    pub next : Proposing words (i + 1) (set starts i start) (set ends (job .bench) (start + job .ticks))
     next =
         record {
           ahead = job ∷ w .ahead;
-          room = length-set starts i end ∙ w .room;
-          benches = length-set ends (job .bench) (end + job .ticks) ∙ w .benches;
+          room = length-set starts i start ∙ w .room;
+          benches = length-set ends (job .bench) (start + job .ticks) ∙ w .benches;
           free = free-next;
           low = low-next;
           made = made-next;
