@@ -493,3 +493,73 @@ uint32_t CALL(get_clock)(const uint32_t *table, size_t words, struct hc_wall_tim
     now->ticks = table[CLOCK_TICKS];
     return HC_SUCCESSFUL;
 }
+
+/* ---- Packing a break ---- */
+
+static bool jobs_within(const uint32_t *jobs, size_t job_words, uint32_t break_ticks)
+{
+    if (job_words % JOB_WORDS != 0 || job_words > JOB_WORDS * HC_MAX_JOBS || break_ticks > MAX_JOB_TICKS)
+        return false;
+    for (size_t i = 0; i < job_words; i += JOB_WORDS)
+        if (jobs[i] < 1 || jobs[i] > LAST_BENCH || jobs[i + 1] < 1 || jobs[i + 1] > MAX_JOB_TICKS)
+            return false;
+    return true;
+}
+
+/* No job from this one on is of that bench and overlaps the ticks between. */
+static bool free_between(const uint32_t *jobs, const uint32_t *starts, size_t i, size_t count, uint32_t bench, uint64_t from,
+                         uint64_t to)
+{
+    for (; i < count; i++)
+        if (jobs[JOB_WORDS * i] == bench && starts[i] < to && from < (uint64_t)starts[i] + jobs[JOB_WORDS * i + 1])
+            return false;
+    return true;
+}
+
+/* From the last job to the first, with the earliest start so far of each bench: a job that ends by then needs no search. */
+static bool plan_fits(const uint32_t *jobs, uint32_t break_ticks, const uint32_t *starts, size_t count)
+{
+    uint64_t earliest[LAST_BENCH + 1];
+    for (uint32_t bench = 1; bench <= LAST_BENCH; bench++)
+        earliest[bench] = break_ticks;
+    for (size_t i = count; i-- > 0;) {
+        uint32_t bench = jobs[JOB_WORDS * i];
+        uint64_t from = starts[i], to = from + jobs[JOB_WORDS * i + 1];
+        if (to > break_ticks)
+            return false;
+        if (to > earliest[bench] && !free_between(jobs, starts, i + 1, count, bench, from, to))
+            return false;
+        if (from < earliest[bench])
+            earliest[bench] = from;
+    }
+    return true;
+}
+
+uint32_t CALL(plan_check)(const uint32_t *jobs, size_t job_words, uint32_t break_ticks, const uint32_t *starts, size_t count)
+{
+    if (!jobs_within(jobs, job_words, break_ticks))
+        return HC_INVALID_NUMBER;
+    if (count != job_words / JOB_WORDS)
+        return HC_INVALID_NUMBER;
+    if (!plan_fits(jobs, break_ticks, starts, count))
+        return HC_UNSATISFIED;
+    return HC_SUCCESSFUL;
+}
+
+uint32_t CALL(plan)(const uint32_t *jobs, size_t job_words, uint32_t break_ticks, uint32_t *starts, size_t starts_words)
+{
+    uint32_t proposed[HC_MAX_JOBS], ends[LAST_BENCH + 1] = {0};
+    size_t count = job_words / JOB_WORDS;
+    if (!jobs_within(jobs, job_words, break_ticks))
+        return HC_INVALID_NUMBER;
+    if (starts_words < count)
+        return HC_INVALID_SIZE;
+    for (size_t i = 0; i < count; i++) {
+        proposed[i] = ends[jobs[JOB_WORDS * i]];
+        ends[jobs[JOB_WORDS * i]] += jobs[JOB_WORDS * i + 1];
+    }
+    if (CALL(plan_check)(jobs, job_words, break_ticks, proposed, count) != HC_SUCCESSFUL)
+        return HC_UNSATISFIED;
+    memcpy(starts, proposed, count * sizeof *proposed);
+    return HC_SUCCESSFUL;
+}

@@ -18,6 +18,7 @@ enum { HEADER_WORDS = 10, SLOT_WORDS = 8 };
 enum { KIND, NAME, INTERVAL, WAIT, ROUTINE, DATA, NEXT, PREVIOUS };
 enum { FREE, NEVER_STARTED, IDLE_TICKING, IDLE_DATED, TICKING, DATED };
 #define ID_BASE 0x12010000u
+enum { JOB_WORDS = 2, LAST_BENCH = 4, MAX_JOB_TICKS = 1000000 };
 
 uint32_t CALL(lay_out)(uint32_t *table, size_t words, uint32_t slots, uint32_t ticks_per_second);
 uint32_t CALL(create)(uint32_t *table, size_t words, uint32_t name, uint32_t *id);
@@ -33,5 +34,7 @@ uint32_t CALL(tick)(uint32_t *table, size_t words, uint32_t *fired, size_t fired
 uint32_t CALL(set_clock)(uint32_t *table, size_t words, const struct hc_wall_time *now, uint32_t *fired,
                          size_t fired_words, uint32_t *count);
 uint32_t CALL(get_clock)(const uint32_t *table, size_t words, struct hc_wall_time *now);
+uint32_t CALL(plan_check)(const uint32_t *jobs, size_t job_words, uint32_t break_ticks, const uint32_t *starts, size_t count);
+uint32_t CALL(plan)(const uint32_t *jobs, size_t job_words, uint32_t break_ticks, uint32_t *starts, size_t starts_words);
 
 #endif

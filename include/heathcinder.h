@@ -1,6 +1,6 @@
 /* Heathcinder: a timer manager over a table of 32-bit words that the caller lends.
  *
- * The library keeps nothing of its own: all there is to know stands in the table. Every call but hc_lay_out
+ * The library keeps nothing of its own: all there is to know stands in the table. Every call on a table but hc_lay_out
  * begins by checking that the table is sound, and a refused call changes no word of table or list.
  *
  * The table: a header of 10 words, then 8 words for each slot. Slot indexes run from 1; link 0 means none.
@@ -36,9 +36,9 @@
  *   - A length is true: that many words may be read, and written where the pointer is not to const.
  *   - The table, the fired list, the wall time and the word for an answer do not overlap.
  *   - Nobody else reads or writes them during a call: where an interrupt makes calls on the same table, keep it out.
- *   - There is stack: hc_ticks_left takes 32 bytes for each timer ahead of its own, 8.2 KB at most, the other calls some
- *     300 bytes. The code is for x86-64, uses SSE registers and the red zone, and needs memset; it allocates nothing
- *     and has no writable data.
+ *   - There is stack: hc_ticks_left takes 32 bytes for each timer ahead of its own, 8.2 KB at most, hc_plan some 800 bytes,
+ *     the other calls some 300. The code is for x86-64, uses SSE registers and the red zone, and needs memset and memcpy;
+ *     it allocates nothing and has no writable data.
  */
 #ifndef HEATHCINDER_H
 #define HEATHCINDER_H
@@ -55,10 +55,11 @@ extern "C" {
 #define HC_INVALID_NAME 3u     /* create, ident: name 0; ident: no timer has that name */
 #define HC_INVALID_ID 4u       /* the id names no timer */
 #define HC_TOO_MANY 5u         /* create: no slot is free */
-#define HC_INVALID_SIZE 8u     /* lay out: fewer than 10 + 8N words */
+#define HC_INVALID_SIZE 8u     /* lay out: fewer than 10 + 8N words; plan: fewer words of list than jobs */
 #define HC_INVALID_ADDRESS 9u  /* fire after, fire when: routine 0 */
-#define HC_INVALID_NUMBER 10u  /* fire after: ticks 0; lay out: N or T outside its limits */
+#define HC_INVALID_NUMBER 10u  /* fire after: ticks 0; lay out, plan, plan check: a number outside its limits */
 #define HC_NOT_DEFINED 11u     /* fire when, get clock: clock not set; reset: not last started by interval */
+#define HC_UNSATISFIED 13u     /* plan check: the plan does not fit; plan: no plan does */
 #define HC_INVALID_CLOCK 20u   /* set clock, fire when: date not valid; fire when: not after the present second */
 #define HC_NOT_SOUND 100u      /* any call but lay out: the table is not sound */
 #define HC_LIST_TOO_SHORT 101u /* tick, set clock: fewer than 3N words of list */
@@ -135,6 +136,25 @@ uint32_t hc_set_clock(uint32_t *table, size_t words, const struct hc_wall_time *
 /* Answers the present date and the ticks into its second; all seven are 0 on a refusal.
  * HC_NOT_DEFINED: clock not set. */
 uint32_t hc_get_clock(const uint32_t *table, size_t words, struct hc_wall_time *now);
+
+/* Packing a break, which takes no table. Jobs are words, two a job: its bench, 1 to 4, and its length in ticks, 1 to
+ * 1,000,000; job_words is their number. The break has break_ticks ticks, up to 1,000,000. A plan is one start tick a job,
+ * in the jobs' order, counted from the start of the break. Jobs and starts may not overlap in memory. */
+#define HC_MAX_JOBS 64u
+#define HC_JOB_WORDS(jobs) (2u * (jobs))
+
+/* Checks anyone's plan: every job must end by the end of the break, and no two jobs of one bench may overlap; a job may
+ * start where another ends. A start may be any number. No word is changed.
+ * HC_INVALID_NUMBER: more than HC_MAX_JOBS jobs, half a job, a bench, a length or a break outside its limits, or not one
+ * start a job. HC_UNSATISFIED: the plan does not fit. */
+uint32_t hc_plan_check(const uint32_t *jobs, size_t job_words, uint32_t break_ticks, const uint32_t *starts,
+                       size_t count);
+
+/* Plans the break: each job starts where the jobs of its bench ahead of it end. Writes the starts to the list; list words
+ * after those stay. A plan is found wherever there is one.
+ * HC_INVALID_NUMBER: as for hc_plan_check. HC_INVALID_SIZE: fewer words of list than jobs. HC_UNSATISFIED: there is no plan
+ * that hc_plan_check accepts; then a bench's jobs are together longer than the break. */
+uint32_t hc_plan(const uint32_t *jobs, size_t job_words, uint32_t break_ticks, uint32_t *starts, size_t starts_words);
 
 #ifdef __cplusplus
 }

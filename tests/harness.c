@@ -259,8 +259,17 @@ enum { BESIDE = 2 };
 static uint32_t answers[BESIDE + 1 + BESIDE];
 static struct hc_wall_time times[BESIDE + 1 + BESIDE];
 
-static uint32_t call_library(const struct call *c, uint32_t *table, uint32_t *list)
+/* A call with the words lent for it. */
+struct lent_call {
+    const struct call *call;
+    uint32_t *table, *list;
+};
+
+static uint32_t call_library(const void *arguments)
 {
+    const struct lent_call *lent = arguments;
+    const struct call *c = lent->call;
+    uint32_t *table = lent->table, *list = lent->list;
     uint32_t *answer = &answers[BESIDE];
     struct hc_wall_time *time = &times[BESIDE];
     switch (c->kind) {
@@ -292,7 +301,7 @@ static uint32_t call_library(const struct call *c, uint32_t *table, uint32_t *li
     abort();    /* there is no such call */
 }
 
-static uint32_t call_watched(const struct call *c, uint32_t *table, uint32_t *list)
+uint32_t watched(uint32_t (*call)(const void *), const void *arguments)
 {
     if (sigsetjmp(before_call, 0) != 0) {
         in_library = 0;
@@ -300,7 +309,7 @@ static uint32_t call_watched(const struct call *c, uint32_t *table, uint32_t *li
     }
     alarms_in_call = 0;
     in_library = 1;
-    uint32_t status = call_library(c, table, list);
+    uint32_t status = call(arguments);
     in_library = 0;
     return status;
 }
@@ -322,7 +331,7 @@ void perform(const struct call *c, uint32_t *table, uint32_t *list, struct came 
     memcpy(answers_before, answers, sizeof answers);
     memcpy(times_before, times, sizeof times);
 
-    came->status = call_watched(c, table, list);
+    came->status = watched(call_library, &(struct lent_call){c, table, list});
 
     came->answer = has_answer(c->kind) ? answers[BESIDE] : 0;
     came->clock = (struct hc_wall_time){0, 0, 0, 0, 0, 0, 0};

@@ -36,7 +36,11 @@ struct came {
     bool beside;            /* a word beside the answer, or the wall time given, was changed */
 };
 
-/* Makes the call. One that touches a closed page, overruns the stack or does not end is a failure. */
+/* Makes a call of the library's and gives its status. One that touches a closed page, overruns the stack or does not end
+ * is a failure. */
+uint32_t watched(uint32_t (*call)(const void *arguments), const void *arguments);
+
+/* Makes the call so. */
 void perform(const struct call *call, uint32_t *table, uint32_t *list, struct came *came);
 
 /* Makes the call that place tells, notes it, and fails unless status, answers and the memory are as expected: for an

@@ -12,11 +12,12 @@ use borrow.Author.Tests.{leb-true, ltb-true, ltb-false, le-leb, lt-ltb, eqb-fals
 use Rattle.calendar.specs.declared.WallTime.{WallTime}
 use Rattle.calendar.specs.Calendar.{allOf, valid, secondsOf}
 use Rattle.model.specs.Lists.{All}
-use Rattle.model.specs.Status.{Status, InvalidName, InvalidId, TooMany, InvalidSize, InvalidAddress, InvalidNumber, NotDefined, InvalidClock, NotSound, ListTooShort, numberOf, Refusal, when, firstOf}
+use Rattle.model.specs.Status.{NotSound, numberOf, Refusal, when, firstOf}
 use Rattle.model.specs.Calls.{Call, layOut, create, ident, cancel, delete, fireAfter, fireWhen, reset, ticksLeft, tick, setClock, getClock}
 use Rattle.model.specs.Kinds.{lastByTicks}
 use Rattle.model.specs.State.{State, slotAt, idBase, indexOf, names}
 use Rattle.model.specs.Directives.{lowestFree, lowestNamed, isShort, limits, refusals}
+use Rattle.model.proofs.StatusLaws.{not-zero}
 use Rattle.model.proofs.ListLaws.{cases, clash, both, all-at, all-true}
 
 -- ---- any list of rules
@@ -24,19 +25,6 @@ use Rattle.model.proofs.ListLaws.{cases, clash, both, all-at, all-true}
 -- a rule that never applies
 abbrev pub noRule : Refusal
 noRule = when NotSound false
-
--- no refusal has the number 0
-pub not-zero : (s : Status) → numberOf s ≡ 0 → ⊥
-not-zero InvalidName z = omega arith
-not-zero InvalidId z = omega arith
-not-zero TooMany z = omega arith
-not-zero InvalidSize z = omega arith
-not-zero InvalidAddress z = omega arith
-not-zero InvalidNumber z = omega arith
-not-zero NotDefined z = omega arith
-not-zero InvalidClock z = omega arith
-not-zero NotSound z = omega arith
-not-zero ListTooShort z = omega arith
 
 first-passes : (r : Refusal) (rs : List Refusal) → firstOf (r ∷ rs) ≡ 0 → r .given ≡ false
 first-passes r rs e = cases (r .given) (λ f. absurd (not-zero (r .status) (rw f at e))) (λ f. f)

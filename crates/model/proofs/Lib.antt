@@ -1,6 +1,7 @@
 -- The proofs, in reading order: laws of lists, slots and chains; the words of a table and its soundness; what each call keeps; what a list of
 -- calls means; demand 3 and its readings; the worked cases.
 pub mod ListLaws
+pub mod StatusLaws
 pub mod Order
 pub mod EachPlace
 pub mod KindLaws

@@ -6,7 +6,7 @@ use mathlib.Core.Bool.{Bool, true, false, cond, not, _&&_, _||_, or-false}
 use mathlib.Core.List.{List, [], _∷_, _++_, map, reverseAux}
 use lib.ListN.{length}
 use lib.Dec.{leb, eqb, ltb}
-use borrow.Author.Tests.{leb-true, leb-false, lt-leb, le-leb, le-ltb, lt-ltb, eqb-true, eqb-false}
+use borrow.Author.Tests.{leb-true, leb-false, lt-leb, le-leb, le-ltb, lt-ltb, eqb-true, eqb-false, not-true, not-false}
 use Rattle.calendar.specs.Calendar.{allOf}
 pub use Rattle.calendar.proofs.Validity.{all-at}
 use Rattle.model.specs.Lists.{goesBehind, allUp, keep, any, every, count, place, All, Sorted}
@@ -37,6 +37,13 @@ or-right false b e = e
 pub or-else : (a b : Bool) → (a || b) ≡ true → a ≡ false → b ≡ true
 or-else true b e f = clash f
 or-else false b e f = e
+
+-- a test that a call answered, as what it tests for
+pub passed : {r b : Bool} → r ≡ b → not r ≡ false → b ≡ true
+passed {r} {b} e n = sym e ∙ not-false r n
+
+pub failed : {r b : Bool} → r ≡ b → not r ≡ true → b ≡ false
+failed {r} {b} e n = sym e ∙ not-true r n
 
 pub not-leb : (a b : ℕ) → ltb b a ≡ not (leb a b)
 not-leb a b = cases (leb a b) (λ e. le-ltb b a (leb-true a b e) ∙ ap not (sym e)) (λ e. lt-ltb b a (leb-false a b e) ∙ ap not (sym e))

@@ -11,7 +11,7 @@ use Rattle.model.specs.Directives.{refusals}
 use Rattle.model.specs.Words.{read}
 use Rattle.model.specs.Outcome.{Outcome, statusOn, refused, accepted, outcome}
 use Rattle.model.proofs.ListLaws.{cases}
-use Rattle.model.proofs.AcceptedCalls.{not-zero}
+use Rattle.model.proofs.StatusLaws.{not-zero}
 
 -- what holds of a lay out and of all that are none
 pub each-call : (P : Call → Type 0) → ((n t : ℕ) → P (layOut n t)) → ((c : Call) → isLayOut c ≡ false → P c) → (c : Call) → P c

@@ -22,6 +22,7 @@ pub enum Status {
     InvalidAddress,
     InvalidNumber,
     NotDefined,
+    Unsatisfied,
     InvalidClock,
     NotSound,
     ListTooShort,

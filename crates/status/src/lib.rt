@@ -19,6 +19,8 @@ const INVALID_NUMBER: u32 = 10;
 
 const NOT_DEFINED: u32 = 11;
 
+const UNSATISFIED: u32 = 13;
+
 const INVALID_CLOCK: u32 = 20;
 
 const NOT_SOUND: u32 = 100;
@@ -37,6 +39,7 @@ pub fn number_of(status: Status) -> u32
         Status::InvalidAddress => INVALID_ADDRESS,
         Status::InvalidNumber => INVALID_NUMBER,
         Status::NotDefined => NOT_DEFINED,
+        Status::Unsatisfied => UNSATISFIED,
         Status::InvalidClock => INVALID_CLOCK,
         Status::NotSound => NOT_SOUND,
         Status::ListTooShort => LIST_TOO_SHORT,
