@@ -10,7 +10,7 @@ use lib.Dec.{eqb}
 use borrow.Author.Tests.{eq-eqb}
 use Rattle.calendar.specs.Calendar.{lastSecond}
 use Rattle.model.specs.Lists.{any, count, All}
-use Rattle.model.specs.Calls.{Call, layOut, create, ident, cancel, delete, fireAfter, fireWhen, reset, ticksLeft, tick, setClock, getClock}
+use Rattle.model.specs.Calls.{Call, layOut, create, ident, cancel, delete, fireAfter, fireWhen, fireEvery, reset, ticksLeft, tick, setClock, getClock}
 use Rattle.model.specs.State.{Fired}
 use Rattle.model.specs.Outcome.{outcome}
 use Rattle.model.specs.History.{Event, laidOutFor, changes, deletes, oneTick, clockSetTo, nothing, eventOf, eventsOn, isTick, ticks, perSecond, clockAfter, ends}
@@ -29,6 +29,7 @@ isTickCall (cancel i) = false
 isTickCall (delete i) = false
 isTickCall (fireAfter i n r u) = false
 isTickCall (fireWhen i w r u) = false
+isTickCall (fireEvery i n r u) = false
 isTickCall (reset i) = false
 isTickCall (ticksLeft i) = false
 isTickCall (tick list) = true
@@ -43,6 +44,7 @@ endsTimer id (cancel i) = eqb i id
 endsTimer id (delete i) = eqb i id
 endsTimer id (fireAfter i n r u) = eqb i id
 endsTimer id (fireWhen i w r u) = eqb i id
+endsTimer id (fireEvery i n r u) = eqb i id
 endsTimer id (reset i) = eqb i id
 endsTimer id (ticksLeft i) = false
 endsTimer id (tick list) = false
@@ -57,6 +59,7 @@ tick-is h (cancel i) = refl
 tick-is h (delete i) = refl
 tick-is h (fireAfter i n r u) = refl
 tick-is h (fireWhen i w r u) = refl
+tick-is h (fireEvery i n r u) = refl
 tick-is h (reset i) = refl
 tick-is h (ticksLeft i) = refl
 tick-is h (tick list) = refl
@@ -71,6 +74,7 @@ ends-is id h (cancel i) = refl
 ends-is id h (delete i) = refl
 ends-is id h (fireAfter i n r u) = refl
 ends-is id h (fireWhen i w r u) = refl
+ends-is id h (fireEvery i n r u) = refl
 ends-is id h (reset i) = refl
 ends-is id h (ticksLeft i) = refl
 ends-is id h (tick list) = refl
