@@ -9,15 +9,16 @@
  *          1  ticks in a second T, 1 to 1000                 1  name
  *          2  clock set, 0 or 1                              2  interval in ticks
  *          3  seconds since 1988-01-01 00:00:00              3  wait: ticks after the slot before it in its
- *          4  ticks into the second, below T                    chain (kind 4), or a date in seconds (kind 5)
+ *          4  ticks into the second, below T                    chain (kinds 4, 6), or a date in seconds (kind 5)
  *          5  first slot of the interval chain               4  routine
  *          6  first slot of the dated chain                  5  user data
  *          7  to 9: zero                                     6  next slot in its chain
  *         10  slot 1, then the others                        7  previous slot in its chain
  *
- *     kind 0  free                                 kind 3  idle, last started by date
- *          1  never started                             4  waiting for ticks
- *          2  idle, last started by interval            5  waiting for a date
+ *     kind 0  free                                 kind 4  waiting for ticks
+ *          1  never started                             5  waiting for a date
+ *          2  idle, last started by interval            6  waiting for ticks, periodic
+ *          3  idle, last started by date                7  idle, last started as periodic
  *
  * A timer's id is 0x12010000 plus its slot index. Words past 10 + 8N are neither read nor changed. Words are in the
  * machine's own byte order and hold no address, so a table may be moved or copied between calls.
@@ -109,6 +110,13 @@ uint32_t hc_fire_after(uint32_t *table, size_t words, uint32_t id, uint32_t tick
  * present second. HC_INVALID_ID: the id names no timer. */
 uint32_t hc_fire_when(uint32_t *table, size_t words, uint32_t id, const struct hc_wall_time *when,
                       uint32_t routine, uint32_t data);
+
+/* Starts the timer, anew if it waits, as periodic: with ticks n it fires in every nth accepted hc_tick from now, without
+ * drift, until it is cancelled, deleted or started otherwise. Each time, it goes back behind those that are due in the
+ * same tick as its next firing.
+ * HC_INVALID_NUMBER: ticks 0. HC_INVALID_ADDRESS: routine 0. HC_INVALID_ID: the id names no timer. */
+uint32_t hc_fire_every(uint32_t *table, size_t words, uint32_t id, uint32_t ticks, uint32_t routine,
+                       uint32_t data);
 
 /* Starts a timer last started by interval again, with the same ticks, routine and data.
  * HC_INVALID_ID: the id names no timer. HC_NOT_DEFINED: never started, or last started by date. */
