@@ -18,7 +18,7 @@
  *     kind 0  free                                 kind 4  waiting for ticks
  *          1  never started                             5  waiting for a date
  *          2  idle, last started by interval            6  waiting for ticks, periodic
- *          3  idle, last started by date                7  idle, periodic
+ *          3  idle, last started by date                7  idle, last started as periodic
  *
  * A timer's id is 0x12010000 plus its slot index. Words past 10 + 8N are neither read nor changed. Words are in the
  * machine's own byte order and hold no address, so a table may be moved or copied between calls.
@@ -112,6 +112,13 @@ uint32_t hc_fire_after(uint32_t *table, size_t words, uint32_t id, uint32_t tick
  * present second. HC_INVALID_ID: the id names no timer. */
 uint32_t hc_fire_when(uint32_t *table, size_t words, uint32_t id, const struct hc_wall_time *when,
                       uint32_t routine, uint32_t data);
+
+/* Starts the timer, anew if it waits, as periodic: with ticks n it fires in every nth accepted hc_tick from now, without
+ * drift, until it is cancelled, deleted or started otherwise. Each time, it goes back behind those that are due in the
+ * same tick as its next firing.
+ * HC_INVALID_NUMBER: ticks 0. HC_INVALID_ADDRESS: routine 0. HC_INVALID_ID: the id names no timer. */
+uint32_t hc_fire_every(uint32_t *table, size_t words, uint32_t id, uint32_t ticks, uint32_t routine,
+                       uint32_t data);
 
 /* Starts a timer last started by interval again, with the same ticks, routine and data.
  * HC_INVALID_ID: the id names no timer. HC_NOT_DEFINED: never started, or last started by date. */
