@@ -120,7 +120,7 @@ uint32_t hc_fire_when(uint32_t *table, size_t words, uint32_t id, const struct h
 uint32_t hc_fire_every(uint32_t *table, size_t words, uint32_t id, uint32_t ticks, uint32_t routine,
                        uint32_t data);
 
-/* Starts a timer last started by interval again, with the same ticks, routine and data.
+/* Starts a timer last started by interval again, once or as periodic as it was, with the same ticks, routine and data.
  * HC_INVALID_ID: the id names no timer. HC_NOT_DEFINED: never started, or last started by date. */
 uint32_t hc_reset(uint32_t *table, size_t words, uint32_t id);
 
