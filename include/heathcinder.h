@@ -57,8 +57,9 @@ extern "C" {
 #define HC_INVALID_ID 4u       /* the id names no timer */
 #define HC_TOO_MANY 5u         /* create: no slot is free */
 #define HC_INVALID_SIZE 8u     /* lay out: fewer than 10 + 8N words; plan: fewer words of list than jobs */
-#define HC_INVALID_ADDRESS 9u  /* fire after, fire when: routine 0 */
-#define HC_INVALID_NUMBER 10u  /* fire after: ticks 0; lay out, plan, plan check: a number outside its limits */
+#define HC_INVALID_ADDRESS 9u  /* fire after, fire when, fire every: routine 0 */
+#define HC_INVALID_NUMBER 10u  /* fire after, fire every: ticks 0; lay out, plan, plan check: a number outside
+                                  its limits */
 #define HC_NOT_DEFINED 11u     /* fire when, get clock: clock not set; reset: not last started by interval */
 #define HC_UNSATISFIED 13u     /* plan check: the plan does not fit; plan: no plan does */
 #define HC_INVALID_CLOCK 20u   /* set clock, fire when: date not valid; fire when: not after the present second */
@@ -100,8 +101,8 @@ uint32_t hc_cancel(uint32_t *table, size_t words, uint32_t id);
  * HC_INVALID_ID: the id names no timer. */
 uint32_t hc_delete(uint32_t *table, size_t words, uint32_t id);
 
-/* Starts the timer, anew if it waits: with ticks n it fires in the nth accepted hc_tick from now, after those due in
- * the same one, whatever the clock does.
+/* Starts the timer, anew if it waits: with ticks n it fires in the nth accepted hc_tick from now, after those that
+ * now wait for the same one, whatever the clock does.
  * HC_INVALID_NUMBER: ticks 0. HC_INVALID_ADDRESS: routine 0. HC_INVALID_ID: the id names no timer. */
 uint32_t hc_fire_after(uint32_t *table, size_t words, uint32_t id, uint32_t ticks, uint32_t routine,
                        uint32_t data);
@@ -114,8 +115,8 @@ uint32_t hc_fire_when(uint32_t *table, size_t words, uint32_t id, const struct h
                       uint32_t routine, uint32_t data);
 
 /* Starts the timer, anew if it waits, as periodic: with ticks n it fires in every nth accepted hc_tick from now, without
- * drift, until it is cancelled, deleted or started otherwise. Each time, it goes back behind those that are due in the
- * same tick as its next firing.
+ * drift, until it is cancelled, deleted, reset or started anew, or the table is laid out. Each time, it goes back behind
+ * those that then wait for the tick of its next firing.
  * HC_INVALID_NUMBER: ticks 0. HC_INVALID_ADDRESS: routine 0. HC_INVALID_ID: the id names no timer. */
 uint32_t hc_fire_every(uint32_t *table, size_t words, uint32_t id, uint32_t ticks, uint32_t routine,
                        uint32_t data);
@@ -130,7 +131,8 @@ uint32_t hc_ticks_left(const uint32_t *table, size_t words, uint32_t id, uint32_
 
 /* One tick passes: interval timers come nearer and those due fire; then the clock, if set, goes on, up to its last tick
  * in 2099, and dated timers that it reaches fire. Writes id, routine and user data of each timer that fires to the list:
- * interval timers first, in the order of their starts, then dated ones by date, the earlier start first among equals.
+ * interval timers first, in the order of their starts, where a periodic one's last going back counts as its start; then
+ * dated ones by date, the earlier start first among equals.
  * Answers how many; list words after those stay.
  * HC_LIST_TOO_SHORT: fewer than HC_LIST_WORDS(N) words of list; the tick is not counted. */
 uint32_t hc_tick(uint32_t *table, size_t words, uint32_t *fired, size_t fired_words, uint32_t *count);

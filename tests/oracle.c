@@ -308,7 +308,8 @@ static int waiting(const struct oracle *o, int started, uint64_t limit, struct d
     return count;
 }
 
-/* Due at every multiple of the interval after its start; behind all that wait for that tick already. */
+/* Due an interval after the tick at which it was due, and behind all that wait for that tick already. (histories.c counts the
+ * multiples from the start.) */
 static void go_back(struct oracle *o, struct oracle_timer *t)
 {
     t->waiting = true;

@@ -1,7 +1,8 @@
 -- What the words of demand 3 come to, for a reader who wants the places in the list: which list an order allows, when a start fires, and
 -- that nothing else does. Assumes nothing.
 use mathlib.Core.Path.{_≡_, refl, sym, ap, ap₂, _∙_, subst}
-use Prim.Native.Nat.{ℕ, suc, _%_, _≤_, _<_}
+use Prim.Native.Nat.{ℕ, suc, _+_, _*_, _/_, _%_, _≤_, _<_}
+use native.Mathlib.Nat.{mul-mod-left, div-add-mod', add-zero}
 use native.Mathlib.Omega.{arith}
 use mathlib.Core.Bool.{Bool, true, false, not, _&&_, _||_, and-true}
 use mathlib.Core.Option.{Option, none, some}
@@ -20,7 +21,7 @@ use Rattle.model.specs.Words.{writtenOver, links, read}
 use Rattle.model.specs.Sound.{sound}
 use Rattle.model.specs.Outcome.{Outcome, statusOn, outcome}
 use Rattle.model.specs.Demand.{after, Begins, eventsAfter}
-use Rattle.model.proofs.ListLaws.{cases, clash, all-map, all-append, all-keep, all-passed, all-zip, keep-none}
+use Rattle.model.proofs.ListLaws.{cases, clash, both, all-map, all-append, all-keep, all-passed, all-zip, keep-none}
 use Rattle.model.proofs.Order.{order, orderOn, all-orderOn, order-in-order}
 use Rattle.model.proofs.ReadBack.{links-is}
 use Rattle.model.proofs.HistoryLaws.{all-starts, fewer}
@@ -249,23 +250,49 @@ clock-moves-no-tick d g = refl
 
 -- ---- 7. On the words: what an accepted tick writes to its list.
 
--- An accepted tick lists a start for n ticks, after which there were n - 1 ticks and nothing that ends it. The list that it was lent now
--- begins with entries among which is the start's: its id, routine and data.
+-- the list that a call was lent now begins with entries among which is this one: id, routine and data
+abbrev pub Lists : List ℕ → Call → List ℕ → ℕ → ℕ → ℕ → Type 0
+Lists w c list timer r u =
+    (fired : List Fired) × Begins (outcome w c .list) list fired × List·Memᴰ (record { id = timer; routine = r; userData = u }) fired
+
+listed-at-tick : (w : List ℕ) (n t : ℕ) → outcome w (layOut n t) .status ≡ 0 → (xs : List Call) (list : List ℕ) (P Q : List Event) (id : ℕ) (s : Start)
+    → sameChain ByTicks (chainFor (s .mode)) ≡ true → outcome (after w (layOut n t ∷ xs)) (tick list) .status ≡ 0
+    → eventsAfter w (layOut n t ∷ xs) ≡ Q ++ (changes id (some s) ∷ P) → fires oneTick (startAt P id s Q) ≡ true
+    → Lists (after w (layOut n t ∷ xs)) (tick list) list (s .id) (s .routine) (s .userData)
+listed-at-tick w n t ok xs list P Q id s ticking accepted is now =
+    let a = demand3 w n t ok (xs ++ (tick list ∷ [])) .answers xs [] (tick list) refl .lists accepted in (
+      map entry (a .ticking ++ a .dated),
+      a .entries,
+      Memᴰ·map entry (Memᴰ·append-left (a .dated) (fires-listed ByTicks P Q id s oneTick (a .ticking) ticking now
+          (subst (λ (es : List Event). InOrder ticksLeftOrDate (keep (inChain ByTicks) (keep (fires oneTick) (starts es))) (a .ticking)) is (a .ticking-order)))),
+    )
+
+-- An accepted tick lists a start for n ticks, after which there were n - 1 ticks and nothing that ends it.
 pub tick-lists : (w : List ℕ) (n t : ℕ) → outcome w (layOut n t) .status ≡ 0 → (xs : List Call) (list : List ℕ) (P Q : List Event) (id timer k r u : ℕ)
     → outcome (after w (layOut n t ∷ xs)) (tick list) .status ≡ 0
     → eventsAfter w (layOut n t ∷ xs) ≡ Q ++ (changes id (some (forTicks timer k r u)) ∷ P) → any (ends timer) Q ≡ false → suc (ticks Q) ≡ k
-    → (fired : List Fired) × Begins (outcome (after w (layOut n t ∷ xs)) (tick list) .list) list fired
-    × List·Memᴰ (record { id = timer; routine = r; userData = u }) fired
+    → Lists (after w (layOut n t ∷ xs)) (tick list) list timer r u
 tick-lists w n t ok xs list P Q id timer k r u accepted is quiet nth =
-    let a = demand3 w n t ok (xs ++ (tick list ∷ [])) .answers xs [] (tick list) refl .lists accepted in
-    let s = forTicks timer k r u in
-    let now : fires oneTick (startAt P id s Q) ≡ true =
-    at-nth-tick P Q id timer k r u (omega arith) oneTick ∙ ap₂ (λ (a b : Bool). not a && b) quiet (eq-eqb (suc (ticks Q)) k nth) in (
-      map entry (a .ticking ++ a .dated),
-      a .entries,
-      Memᴰ·map entry (Memᴰ·append-left (a .dated) (fires-listed ByTicks P Q id s oneTick (a .ticking) refl now
-          (subst (λ (es : List Event). InOrder ticksLeftOrDate (keep (inChain ByTicks) (keep (fires oneTick) (starts es))) (a .ticking)) is (a .ticking-order)))),
-    )
+    listed-at-tick w n t ok xs list P Q id (forTicks timer k r u) refl accepted is
+    (at-nth-tick P Q id timer k r u (omega arith) oneTick ∙ ap₂ (λ (a b : Bool). not a && b) quiet (eq-eqb (suc (ticks Q)) k nth))
+
+-- It lists a periodic start for n wherever the ticks since that start are with it m times n, for each m, and nothing ended it; and a periodic start
+-- fires nowhere else.
+pub multiple-lists : (w : List ℕ) (n t : ℕ) → outcome w (layOut n t) .status ≡ 0 → (xs : List Call) (list : List ℕ) (P Q : List Event)
+    (id timer k r u m : ℕ) → outcome (after w (layOut n t ∷ xs)) (tick list) .status ≡ 0
+    → eventsAfter w (layOut n t ∷ xs) ≡ Q ++ (changes id (some (startOf timer Every k r u)) ∷ P) → any (ends timer) Q ≡ false → suc (ticks Q) ≡ m * k
+    → Lists (after w (layOut n t ∷ xs)) (tick list) list timer r u
+multiple-lists w n t ok xs list P Q id timer k r u m accepted is quiet multiple =
+    listed-at-tick w n t ok xs list P Q id (startOf timer Every k r u) refl accepted is
+    (at-every-nth P Q id timer k r u oneTick
+    ∙ ap₂ (λ (a b : Bool). not a && b) quiet (eq-eqb (suc (ticks Q) % k) 0 (ap (λ (j : ℕ). j % k) multiple ∙ mul-mod-left m k)))
+
+pub only-multiples : (P Q : List Event) (id timer k r u : ℕ) (e : Event) → fires e (startAt P id (startOf timer Every k r u) Q) ≡ true
+    → (isTick e ≡ true) × ((m : ℕ) × (suc (ticks Q) ≡ m * k))
+only-multiples P Q id timer k r u e now =
+    let tick = both (isTick e) (eqb (suc (ticks Q) % k) 0) (both (not (any (ends timer) Q)) (isTick e && eqb (suc (ticks Q) % k) 0) (sym (at-every-nth P Q id timer k r u e) ∙ now) .1) in
+    let rest = eqb-true (suc (ticks Q) % k) 0 (tick .1) in
+    (tick .0, (suc (ticks Q) / k, sym (div-add-mod' (suc (ticks Q)) k) ∙ ap (λ (j : ℕ). suc (ticks Q) / k * k + j) rest ∙ add-zero _))
 
 -- An accepted tick or set clock that leaves the clock at or past a date lists a start for that date, where none before it did so and nothing
 -- ended it.
@@ -289,7 +316,7 @@ date-lists w n t ok xs c P Q id timer d r u accepted is quiet before moving ther
           (subst (λ (l : List Event). InOrder ticksLeftOrDate (keep (inChain ByDate) (keep (fires e) (starts l))) (a .dated)) is (a .dated-order)))),
     )
 
--- Each entry that any accepted call writes is that of a start that is due there, was not due before and was not ended.
+-- Each entry that any accepted call writes is that of a start that is due there and was not ended, and, unless it is periodic, was not due before.
 pub lists-only : (w : List ℕ) (n t : ℕ) → outcome w (layOut n t) .status ≡ 0 → (xs : List Call) (c : Call)
     → outcome (after w (layOut n t ∷ xs)) c .status ≡ 0 → (l : List Placed)
     × Begins (outcome (after w (layOut n t ∷ xs)) c .list) (lentTo c) (map entry l)

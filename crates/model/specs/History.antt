@@ -1,4 +1,4 @@
--- Document 01, "The words of demand 3": what a list of accepted calls means, with no table in sight.
+-- Document 01, "The words of demand 3", and document 02, item 1: what a list of accepted calls means, with no table in sight.
 -- A list of events is read backwards, the latest first. Assumes nothing: these are definitions.
 use Prim.Native.Nat.{ℕ, suc, _+_, _-_, _*_, _%_, min}
 use mathlib.Core.Bool.{Bool, true, false, cond, not, _&&_, _||_}
@@ -197,8 +197,8 @@ waits g = not (wasEnded g) && (isPeriodic (g .begun .mode) || not (wasDue g))
 abbrev pub fires : Event → Placed → Bool
 fires e g = waits g && isDue e g
 
--- Each going back of a periodic timer that fires counts as a start for the order among equals: those that go back in e follow the others, in
--- the order that they had.
+-- Each going back of a periodic timer that fires counts as a start only for the order among equals: those that go back in e follow the others,
+-- in the order that they had.
 abbrev pub goesBack : Event → Placed → Bool
 goesBack e g = isPeriodic (g .begun .mode) && fires e g
 

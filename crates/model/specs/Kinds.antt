@@ -1,4 +1,4 @@
--- Document 01, "Kinds", and the chains in which timers wait. Assumes nothing: these are definitions.
+-- Document 01, "Kinds", document 02, item 1, and the chains in which timers wait. Assumes nothing: these are definitions.
 use Prim.Native.Nat.{ℕ}
 use mathlib.Core.Bool.{Bool, true, false}
 use mathlib.Core.Option.{Option, none, some}
