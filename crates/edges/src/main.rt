@@ -1,6 +1,6 @@
-// Runs the cases of document 01 and the requests that stand in `stdin`, one a line: a label, a bar, and the words of a step in decimal, its number first and then its
-// arguments. Prints the label, then status and answer. A line without a bar says which sentences the cases below it are of, and is copied. `stdout` is
-// written by hand from the documents. A new case is a line of both files; a new call is a number and an arm.
+// Runs the cases of document 01 and of the requests that stand in `stdin`, one a line: a label, a bar, and the words of a step in decimal, its number
+// first and then its arguments. Prints the label, then status and answer. A line without a bar says which sentences the cases below it are of, and is
+// copied. `stdout` is written by hand from the documents. A new case is a line of both files; a new call is a number and an arm.
 ghost use Prim.Native.Nat.{_≤_};
 ghost use lib.ListN.{length};
 use answers::Answer;
