@@ -192,13 +192,22 @@ static void start_every(uint32_t index)
     must("fire every", plain_fire_every(table, words, ID(index), 10, ROUTINE_NUMBER, index));
 }
 
+/* The others are due later. */
+static void start_every_fourth(uint32_t index)
+{
+    if (index % 4 == 0)
+        start_every(index);
+    else
+        start_ticks(index, 12 + below(4 * slots));
+}
+
 /* Of eight slots one is free, one never started, two idle, two wait for ticks and two for a date; or all wait for ticks, each
- * for its own; or all for the next tick; or all are periodic with one interval. */
+ * for its own; or all for the next tick; or all are periodic with one interval, or a quarter of them. */
 static const struct filling {
     const char *name;
     void (*start)(uint32_t index);
 } mixed = {"mixed", start_mixed}, full = {"full", start_far}, due = {"due", start_at_once},
-  periodic = {"periodic", start_every};
+  periodic = {"periodic", start_every}, quarter = {"quarter", start_every_fourth};
 
 static uint32_t chain_length(uint32_t first)
 {
@@ -295,6 +304,7 @@ static const struct bench {
     {"tick, a periodic timer fires", do_tick, &mixed, next_tick_fires_again},
     {"tick, a dated timer fires", do_tick, &mixed, next_tick_is_a_date}, {"tick, all fire (due)", do_tick, &due, NULL},
     {"tick, all fire (periodic)", do_tick, &periodic, next_tick_fires},
+    {"tick, all periodic fire (quarter)", do_tick, &quarter, next_tick_fires},
     {"set_clock, half the dated fire", do_set_clock, &mixed, NULL}, {"get_clock", do_get_clock, &mixed, NULL}};
 
 /* ---- Timing ---- */
