@@ -5,12 +5,17 @@
 #include <stdbool.h>
 #include <string.h>
 
-enum { IDLE_OF_WAITING = TICKING - IDLE_TICKING };
-
 #define LAST_SECOND 3534451199u
 
 enum { FIRST_YEAR = 1988, LAST_YEAR = 2099, LEAP_CYCLE = 4, DAYS_OF_CYCLE = 1461, DAYS_OF_YEAR = 365 };
 enum { MINUTE = 60, HOUR = 3600, DAY = 86400 };
+
+enum { IDLE_OF_WAITING = TICKING - IDLE_TICKING };      /* but for periodic ones */
+
+/* What a timer of each kind becomes when it stops, and as what a reset starts it; 0 where it does not. */
+static const uint8_t stopped[] = {FREE, NEVER_STARTED, IDLE_TICKING, IDLE_DATED, IDLE_TICKING, IDLE_DATED, IDLE_PERIODIC,
+                                  IDLE_PERIODIC};
+static const uint8_t restarted[] = {0, 0, TICKING, 0, TICKING, 0, PERIODIC, PERIODIC};
 
 /* Days before each month of a common and of a leap year, and the whole year's. */
 static const uint16_t days_before[2][13] = {
@@ -34,6 +39,12 @@ static inline uint64_t pair(const uint32_t *words)
     uint64_t both;
     memcpy(&both, words, sizeof both);
     return both;
+}
+
+/* Of kind 4 or 6. */
+static inline bool waits_for_ticks(const uint32_t *s)
+{
+    return (s[KIND] & ~(uint32_t)(TICKING ^ PERIODIC)) == TICKING;
 }
 
 static inline bool header_sound(const uint32_t *table, size_t words)
@@ -66,8 +77,8 @@ struct walk {
 };
 
 /* One step along the interval chain. Ticks left from 1 up to the interval make the interval 1 or more besides. The kind
- * need not be looked at: of other kinds only 2 has an interval, and its wait and previous link are 0, so that it neither
- * is the first here nor comes after another. */
+ * need not be looked at: of other kinds only 2 and 7 have an interval, and their wait and previous link are 0, so that they
+ * neither are the first here nor come after another. */
 static inline bool step_ticking(const uint32_t *table, struct walk *walk)
 {
     if (walk->at - 1 >= table[SLOTS])
@@ -86,8 +97,8 @@ static inline bool step_ticking(const uint32_t *table, struct walk *walk)
 }
 
 /* One step along the dated chain. Nor is the kind looked at here: chains with two first slots share none, so no slot of
- * kind 4 comes, and of the others that do not wait for a date none has a wait that is not 0. Dates never fall, so the last
- * one alone is held against the last second, at the end. */
+ * kind 4 or 6 comes, and of the others that do not wait for a date none has a wait that is not 0. Dates never fall, so the
+ * last one alone is held against the last second, at the end. */
 static inline bool step_dated(const uint32_t *table, struct walk *walk)
 {
     if (walk->at - 1 >= table[SLOTS])
@@ -113,15 +124,15 @@ static inline bool slot_sound(const uint32_t *table, const uint32_t *s, struct w
     }
     if (s[NAME] == 0 || s[ROUTINE] == 0)
         return false;
-    if (s[KIND] == TICKING)
+    if (waits_for_ticks(s))
         return step_ticking(table, ticking);
     if (s[KIND] == DATED)
         return s[INTERVAL] == 0 && step_dated(table, dated);
     if (s[WAIT] | pair(s + NEXT))
         return false;
-    if (s[KIND] > IDLE_DATED)
+    if (s[KIND] > IDLE_PERIODIC)
         return false;
-    return (s[INTERVAL] != 0) == (s[KIND] == IDLE_TICKING);
+    return (s[INTERVAL] == 0) == (s[KIND] == IDLE_DATED);
 }
 
 /* One pass over the slots, and with it one along each chain. Previous links that fit let no slot come twice, so as many
@@ -207,19 +218,19 @@ static void date_of(uint32_t seconds, struct hc_wall_time *time)
 static void stop(uint32_t *table, uint32_t index)
 {
     uint32_t *s = slot(table, index);
-    if (s[KIND] < TICKING)
+    if (s[KIND] < TICKING || s[KIND] > PERIODIC)
         return;
     uint32_t next = s[NEXT], previous = s[PREVIOUS];
-    uint32_t *link = s[KIND] == TICKING ? &table[FIRST_TICKING] : &table[FIRST_DATED];
+    uint32_t *link = s[KIND] == DATED ? &table[FIRST_DATED] : &table[FIRST_TICKING];
     if (previous)
         link = &slot(table, previous)[NEXT];
     *link = next;
     if (next) {
         slot(table, next)[PREVIOUS] = previous;
-        if (s[KIND] == TICKING)
+        if (s[KIND] != DATED)
             slot(table, next)[WAIT] += s[WAIT];
     }
-    s[KIND] -= IDLE_OF_WAITING;
+    s[KIND] = stopped[s[KIND]];
     s[WAIT] = 0;
     s[NEXT] = 0;
     s[PREVIOUS] = 0;
@@ -237,10 +248,11 @@ static inline void link_between(uint32_t *table, uint32_t first, uint32_t previo
     slot(table, index)[PREVIOUS] = previous;
 }
 
-/* An idle timer waits for so many ticks, behind every one due at the same tick. */
-static void start_ticking(uint32_t *table, uint32_t index, uint32_t ticks)
+/* Puts a timer into the interval chain, this many ticks after the one given and behind every one due at the same tick;
+ * after 0, this many ticks from now. */
+static inline void insert_ticking(uint32_t *table, uint32_t index, uint32_t after, uint32_t left)
 {
-    uint32_t previous = 0, next = table[FIRST_TICKING], left = ticks;
+    uint32_t previous = after, next = after ? slot(table, after)[NEXT] : table[FIRST_TICKING];
     while (next && slot(table, next)[WAIT] <= left) {
         left -= slot(table, next)[WAIT];
         previous = next;
@@ -249,9 +261,15 @@ static void start_ticking(uint32_t *table, uint32_t index, uint32_t ticks)
     link_between(table, FIRST_TICKING, previous, index, next);
     if (next)
         slot(table, next)[WAIT] -= left;
-    slot(table, index)[KIND] = TICKING;
-    slot(table, index)[INTERVAL] = ticks;
     slot(table, index)[WAIT] = left;
+}
+
+/* An idle timer waits for so many ticks, as this kind. */
+static void start_ticking(uint32_t *table, uint32_t index, uint32_t kind, uint32_t ticks)
+{
+    insert_ticking(table, index, 0, ticks);
+    slot(table, index)[KIND] = kind;
+    slot(table, index)[INTERVAL] = ticks;
 }
 
 /* An idle timer waits for a date, behind every one of the same date. */
@@ -268,18 +286,36 @@ static void start_dated(uint32_t *table, uint32_t index, uint32_t date)
     slot(table, index)[WAIT] = date;
 }
 
-/* Fires the chain's timers whose wait is no more than due, and gives how many; the list begins at fired. */
-static uint32_t fire(uint32_t *table, uint32_t first, uint32_t due, uint32_t *fired)
+/* The periodic timers that came off go back in their order. Each search begins where the one before went, unless that is
+ * due later. */
+static void go_back(uint32_t *table, const uint8_t *periodic, uint32_t count)
 {
-    uint32_t index = table[first], count = 0;
+    uint32_t last = 0, reached = 0;
+    for (uint32_t k = 0; k < count; k++) {
+        uint32_t interval = slot(table, periodic[k])[INTERVAL];
+        if (interval < reached)
+            last = 0, reached = 0;
+        insert_ticking(table, periodic[k], last, interval - reached);
+        last = periodic[k], reached = interval;
+    }
+}
+
+/* Fires the chain's timers whose wait is no more than due, and gives how many; the list begins at fired. */
+static inline uint32_t fire(uint32_t *table, uint32_t first, uint32_t due, uint32_t *fired)
+{
+    uint8_t periodic[MAX_SLOTS];
+    uint32_t index = table[first], count = 0, periodics = 0;
     while (index && slot(table, index)[WAIT] <= due) {
         uint32_t *s = slot(table, index);
         fired[FIRED_WORDS * count] = ID_BASE + index;
         fired[FIRED_WORDS * count + 1] = s[ROUTINE];
         fired[FIRED_WORDS * count + 2] = s[DATA];
         count++;
+        if (first == FIRST_TICKING && s[KIND] == PERIODIC)
+            periodic[periodics++] = (uint8_t)index;
+        else
+            s[KIND] -= IDLE_OF_WAITING;
         index = s[NEXT];
-        s[KIND] -= IDLE_OF_WAITING;
         s[WAIT] = 0;
         s[NEXT] = 0;
         s[PREVIOUS] = 0;
@@ -287,6 +323,8 @@ static uint32_t fire(uint32_t *table, uint32_t first, uint32_t due, uint32_t *fi
     table[first] = index;
     if (index)
         slot(table, index)[PREVIOUS] = 0;
+    if (periodics)
+        go_back(table, periodic, periodics);
     return count;
 }
 
@@ -373,7 +411,9 @@ uint32_t CALL(delete)(uint32_t *table, size_t words, uint32_t id)
     return HC_SUCCESSFUL;
 }
 
-uint32_t CALL(fire_after)(uint32_t *table, size_t words, uint32_t id, uint32_t ticks, uint32_t routine, uint32_t data)
+/* Fire after, or fire every, by the kind of timer that waits then. */
+static inline uint32_t fire_ticks(uint32_t *table, size_t words, uint32_t id, uint32_t kind, uint32_t ticks,
+                                  uint32_t routine, uint32_t data)
 {
     if (!sound(table, words))
         return HC_NOT_SOUND;
@@ -387,8 +427,13 @@ uint32_t CALL(fire_after)(uint32_t *table, size_t words, uint32_t id, uint32_t t
     stop(table, index);
     slot(table, index)[ROUTINE] = routine;
     slot(table, index)[DATA] = data;
-    start_ticking(table, index, ticks);
+    start_ticking(table, index, kind, ticks);
     return HC_SUCCESSFUL;
+}
+
+uint32_t CALL(fire_after)(uint32_t *table, size_t words, uint32_t id, uint32_t ticks, uint32_t routine, uint32_t data)
+{
+    return fire_ticks(table, words, id, TICKING, ticks, routine, data);
 }
 
 uint32_t CALL(fire_when)(uint32_t *table, size_t words, uint32_t id, const struct hc_wall_time *when, uint32_t routine,
@@ -415,6 +460,11 @@ uint32_t CALL(fire_when)(uint32_t *table, size_t words, uint32_t id, const struc
     return HC_SUCCESSFUL;
 }
 
+uint32_t CALL(fire_every)(uint32_t *table, size_t words, uint32_t id, uint32_t ticks, uint32_t routine, uint32_t data)
+{
+    return fire_ticks(table, words, id, PERIODIC, ticks, routine, data);
+}
+
 uint32_t CALL(reset)(uint32_t *table, size_t words, uint32_t id)
 {
     if (!sound(table, words))
@@ -422,11 +472,11 @@ uint32_t CALL(reset)(uint32_t *table, size_t words, uint32_t id)
     uint32_t index = named(table, id);
     if (index == 0)
         return HC_INVALID_ID;
-    uint32_t kind = slot(table, index)[KIND];
-    if (kind != IDLE_TICKING && kind != TICKING)
+    uint32_t kind = restarted[slot(table, index)[KIND]];
+    if (kind == 0)
         return HC_NOT_DEFINED;
     stop(table, index);
-    start_ticking(table, index, slot(table, index)[INTERVAL]);
+    start_ticking(table, index, kind, slot(table, index)[INTERVAL]);
     return HC_SUCCESSFUL;
 }
 
@@ -438,7 +488,7 @@ uint32_t CALL(ticks_left)(const uint32_t *table, size_t words, uint32_t id, uint
     uint32_t index = named(table, id);
     if (index == 0)
         return HC_INVALID_ID;
-    if (slot_of(table, index)[KIND] != TICKING)
+    if (!waits_for_ticks(slot_of(table, index)))
         return HC_SUCCESSFUL;
     uint32_t left = 0;
     for (uint32_t i = index; i; i = slot_of(table, i)[PREVIOUS])

@@ -16,7 +16,7 @@ enum { MAX_SLOTS = 255, MAX_TICKS_PER_SECOND = 1000, FIRED_WORDS = 3 };
 enum { SLOTS, TICKS_PER_SECOND, CLOCK_SET, SECONDS, CLOCK_TICKS, FIRST_TICKING, FIRST_DATED, ZEROS };
 enum { HEADER_WORDS = 10, SLOT_WORDS = 8 };
 enum { KIND, NAME, INTERVAL, WAIT, ROUTINE, DATA, NEXT, PREVIOUS };
-enum { FREE, NEVER_STARTED, IDLE_TICKING, IDLE_DATED, TICKING, DATED };
+enum { FREE, NEVER_STARTED, IDLE_TICKING, IDLE_DATED, TICKING, DATED, PERIODIC, IDLE_PERIODIC };
 #define ID_BASE 0x12010000u
 enum { JOB_WORDS = 2, LAST_BENCH = 4, MAX_JOB_TICKS = 1000000 };
 
@@ -28,6 +28,7 @@ uint32_t CALL(delete)(uint32_t *table, size_t words, uint32_t id);
 uint32_t CALL(fire_after)(uint32_t *table, size_t words, uint32_t id, uint32_t ticks, uint32_t routine, uint32_t data);
 uint32_t CALL(fire_when)(uint32_t *table, size_t words, uint32_t id, const struct hc_wall_time *when, uint32_t routine,
                          uint32_t data);
+uint32_t CALL(fire_every)(uint32_t *table, size_t words, uint32_t id, uint32_t ticks, uint32_t routine, uint32_t data);
 uint32_t CALL(reset)(uint32_t *table, size_t words, uint32_t id);
 uint32_t CALL(ticks_left)(const uint32_t *table, size_t words, uint32_t id, uint32_t *ticks);
 uint32_t CALL(tick)(uint32_t *table, size_t words, uint32_t *fired, size_t fired_words, uint32_t *count);

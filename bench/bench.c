@@ -25,6 +25,7 @@ struct side {
     uint32_t (*delete)(uint32_t *, size_t, uint32_t);
     uint32_t (*fire_after)(uint32_t *, size_t, uint32_t, uint32_t, uint32_t, uint32_t);
     uint32_t (*fire_when)(uint32_t *, size_t, uint32_t, const struct hc_wall_time *, uint32_t, uint32_t);
+    uint32_t (*fire_every)(uint32_t *, size_t, uint32_t, uint32_t, uint32_t, uint32_t);
     uint32_t (*reset)(uint32_t *, size_t, uint32_t);
     uint32_t (*ticks_left)(const uint32_t *, size_t, uint32_t, uint32_t *);
     uint32_t (*tick)(uint32_t *, size_t, uint32_t *, size_t, uint32_t *);
@@ -33,10 +34,11 @@ struct side {
 };
 
 static const struct side library = {hc_lay_out, hc_create, hc_ident, hc_cancel, hc_delete, hc_fire_after,
-                                    hc_fire_when, hc_reset, hc_ticks_left, hc_tick, hc_set_clock, hc_get_clock};
+                                    hc_fire_when, hc_fire_every, hc_reset, hc_ticks_left, hc_tick, hc_set_clock,
+                                    hc_get_clock};
 static const struct side plain = {plain_lay_out, plain_create, plain_ident, plain_cancel, plain_delete, plain_fire_after,
-                                  plain_fire_when, plain_reset, plain_ticks_left, plain_tick, plain_set_clock,
-                                  plain_get_clock};
+                                  plain_fire_when, plain_fire_every, plain_reset, plain_ticks_left, plain_tick,
+                                  plain_set_clock, plain_get_clock};
 
 /* Calls that do nothing. Their time is what the loop and the way into a call take, and is taken off from both others. */
 static uint32_t no_change(uint32_t *t, size_t n, uint32_t id) { return (void)t, (void)n, (void)id, 0; }
@@ -64,8 +66,8 @@ static uint32_t no_set_clock(uint32_t *t, size_t n, const struct hc_wall_time *w
 }
 static uint32_t no_get_clock(const uint32_t *t, size_t n, struct hc_wall_time *w) { return (void)t, (void)n, (void)w, 0; }
 
-static const struct side nothing = {no_lay_out, no_create, no_answer, no_change, no_change, no_fire_after,
-                                    no_fire_when, no_change, no_answer, no_tick, no_set_clock, no_get_clock};
+static const struct side nothing = {no_lay_out, no_create, no_answer, no_change, no_change, no_fire_after, no_fire_when,
+                                    no_fire_after, no_change, no_answer, no_tick, no_set_clock, no_get_clock};
 
 /* ---- What every case works on: the table, the answers, and the timers it is about ---- */
 
@@ -90,6 +92,10 @@ static uint32_t do_fire_when(const struct side *s)
 {
     return s->fire_when(table, words, ID(dated), &dates[dated], ROUTINE_NUMBER, 0);
 }
+static uint32_t do_fire_every(const struct side *s)
+{
+    return s->fire_every(table, words, ID(ticking), ticks_to_start, ROUTINE_NUMBER, 0);
+}
 static uint32_t do_reset(const struct side *s) { return s->reset(table, words, ID(idle)); }
 static uint32_t do_ticks_left(const struct side *s) { return s->ticks_left(table, words, ID(ticking), &answer); }
 static uint32_t do_last_ticks_left(const struct side *s) { return s->ticks_left(table, words, ID(ticking_last), &answer); }
@@ -102,13 +108,22 @@ static uint32_t *slot(uint32_t index)
     return table + HEADER_WORDS + SLOT_WORDS * (index - 1);
 }
 
-/* Ticks that fire: one interval timer, or one dated timer at a new second. */
+/* Ticks that fire: one interval timer, or one dated timer at a new second. A periodic one goes back to where the timer in the
+ * middle is due. */
 static void next_tick_fires(void) { slot(table[FIRST_TICKING])[WAIT] = 1; }
+static void next_tick_fires_again(void)
+{
+    next_tick_fires();
+    slot(table[FIRST_TICKING])[KIND] = PERIODIC;
+    slot(table[FIRST_TICKING])[INTERVAL] = ticks_to_start;
+}
 static void next_tick_is_a_date(void)
 {
     table[SECONDS] = slot(table[FIRST_DATED])[WAIT] - 1;
     table[CLOCK_TICKS] = RATE - 1;
 }
+
+static void idle_is_periodic(void) { slot(idle)[KIND] = IDLE_PERIODIC; }
 
 /* ---- Tables ---- */
 
@@ -172,12 +187,27 @@ static void start_mixed(uint32_t index)
 
 static void start_at_once(uint32_t index) { start_ticks(index, 1); }
 
+static void start_every(uint32_t index)
+{
+    must("fire every", plain_fire_every(table, words, ID(index), 10, ROUTINE_NUMBER, index));
+}
+
+/* The others are due later. */
+static void start_every_fourth(uint32_t index)
+{
+    if (index % 4 == 0)
+        start_every(index);
+    else
+        start_ticks(index, 12 + below(4 * slots));
+}
+
 /* Of eight slots one is free, one never started, two idle, two wait for ticks and two for a date; or all wait for ticks, each
- * for its own; or all for the next tick. */
+ * for its own; or all for the next tick; or all are periodic with one interval, or a quarter of them. */
 static const struct filling {
     const char *name;
     void (*start)(uint32_t index);
-} mixed = {"mixed", start_mixed}, full = {"full", start_far}, due = {"due", start_at_once};
+} mixed = {"mixed", start_mixed}, full = {"full", start_far}, due = {"due", start_at_once},
+  periodic = {"periodic", start_every}, quarter = {"quarter", start_every_fourth};
 
 static uint32_t chain_length(uint32_t first)
 {
@@ -267,10 +297,14 @@ static const struct bench {
     {"lay_out", do_lay_out, &mixed, NULL}, {"create", do_create, &mixed, NULL}, {"ident", do_ident, &mixed, NULL},
     {"cancel", do_cancel, &mixed, NULL}, {"delete", do_delete, &mixed, NULL}, {"fire_after", do_fire_after, &mixed, NULL},
     {"fire_after behind all (full)", do_fire_after, &full, NULL}, {"fire_when", do_fire_when, &mixed, NULL},
-    {"reset", do_reset, &mixed, NULL}, {"ticks_left", do_ticks_left, &mixed, NULL},
+    {"fire_every", do_fire_every, &mixed, NULL}, {"reset", do_reset, &mixed, NULL},
+    {"reset, periodic", do_reset, &mixed, idle_is_periodic}, {"ticks_left", do_ticks_left, &mixed, NULL},
     {"ticks_left of the last (full)", do_last_ticks_left, &full, NULL}, {"tick", do_tick, &mixed, NULL},
     {"tick, a timer fires", do_tick, &mixed, next_tick_fires},
+    {"tick, a periodic timer fires", do_tick, &mixed, next_tick_fires_again},
     {"tick, a dated timer fires", do_tick, &mixed, next_tick_is_a_date}, {"tick, all fire (due)", do_tick, &due, NULL},
+    {"tick, all fire (periodic)", do_tick, &periodic, next_tick_fires},
+    {"tick, all periodic fire (quarter)", do_tick, &quarter, next_tick_fires},
     {"set_clock, half the dated fire", do_set_clock, &mixed, NULL}, {"get_clock", do_get_clock, &mixed, NULL}};
 
 /* ---- Timing ---- */

@@ -9,15 +9,16 @@
  *          1  ticks in a second T, 1 to 1000                 1  name
  *          2  clock set, 0 or 1                              2  interval in ticks
  *          3  seconds since 1988-01-01 00:00:00              3  wait: ticks after the slot before it in its
- *          4  ticks into the second, below T                    chain (kind 4), or a date in seconds (kind 5)
+ *          4  ticks into the second, below T                    chain (kinds 4, 6), or a date in seconds (kind 5)
  *          5  first slot of the interval chain               4  routine
  *          6  first slot of the dated chain                  5  user data
  *          7  to 9: zero                                     6  next slot in its chain
  *         10  slot 1, then the others                        7  previous slot in its chain
  *
- *     kind 0  free                                 kind 3  idle, last started by date
- *          1  never started                             4  waiting for ticks
- *          2  idle, last started by interval            5  waiting for a date
+ *     kind 0  free                                 kind 4  waiting for ticks
+ *          1  never started                             5  waiting for a date
+ *          2  idle, last started by interval            6  waiting for ticks, periodic
+ *          3  idle, last started by date                7  idle, last started as periodic
  *
  * A timer's id is 0x12010000 plus its slot index. Words past 10 + 8N are neither read nor changed. Words are in the
  * machine's own byte order and hold no address, so a table may be moved or copied between calls.
@@ -56,8 +57,9 @@ extern "C" {
 #define HC_INVALID_ID 4u       /* the id names no timer */
 #define HC_TOO_MANY 5u         /* create: no slot is free */
 #define HC_INVALID_SIZE 8u     /* lay out: fewer than 10 + 8N words; plan: fewer words of list than jobs */
-#define HC_INVALID_ADDRESS 9u  /* fire after, fire when: routine 0 */
-#define HC_INVALID_NUMBER 10u  /* fire after: ticks 0; lay out, plan, plan check: a number outside its limits */
+#define HC_INVALID_ADDRESS 9u  /* fire after, fire when, fire every: routine 0 */
+#define HC_INVALID_NUMBER 10u  /* fire after, fire every: ticks 0; lay out, plan, plan check: a number outside
+                                  its limits */
 #define HC_NOT_DEFINED 11u     /* fire when, get clock: clock not set; reset: not last started by interval */
 #define HC_UNSATISFIED 13u     /* plan check: the plan does not fit; plan: no plan does */
 #define HC_INVALID_CLOCK 20u   /* set clock, fire when: date not valid; fire when: not after the present second */
@@ -99,8 +101,8 @@ uint32_t hc_cancel(uint32_t *table, size_t words, uint32_t id);
  * HC_INVALID_ID: the id names no timer. */
 uint32_t hc_delete(uint32_t *table, size_t words, uint32_t id);
 
-/* Starts the timer, anew if it waits: with ticks n it fires in the nth accepted hc_tick from now, after those due in
- * the same one, whatever the clock does.
+/* Starts the timer, anew if it waits: with ticks n it fires in the nth accepted hc_tick from now, after those that
+ * now wait for the same one, whatever the clock does.
  * HC_INVALID_NUMBER: ticks 0. HC_INVALID_ADDRESS: routine 0. HC_INVALID_ID: the id names no timer. */
 uint32_t hc_fire_after(uint32_t *table, size_t words, uint32_t id, uint32_t ticks, uint32_t routine,
                        uint32_t data);
@@ -112,7 +114,14 @@ uint32_t hc_fire_after(uint32_t *table, size_t words, uint32_t id, uint32_t tick
 uint32_t hc_fire_when(uint32_t *table, size_t words, uint32_t id, const struct hc_wall_time *when,
                       uint32_t routine, uint32_t data);
 
-/* Starts a timer last started by interval again, with the same ticks, routine and data.
+/* Starts the timer, anew if it waits, as periodic: with ticks n it fires in every nth accepted hc_tick from now, without
+ * drift, until it is cancelled, deleted, reset or started anew, or the table is laid out. Each time, it goes back behind
+ * those that then wait for the tick of its next firing.
+ * HC_INVALID_NUMBER: ticks 0. HC_INVALID_ADDRESS: routine 0. HC_INVALID_ID: the id names no timer. */
+uint32_t hc_fire_every(uint32_t *table, size_t words, uint32_t id, uint32_t ticks, uint32_t routine,
+                       uint32_t data);
+
+/* Starts a timer last started by interval again, once or as periodic as it was, with the same ticks, routine and data.
  * HC_INVALID_ID: the id names no timer. HC_NOT_DEFINED: never started, or last started by date. */
 uint32_t hc_reset(uint32_t *table, size_t words, uint32_t id);
 
@@ -122,7 +131,8 @@ uint32_t hc_ticks_left(const uint32_t *table, size_t words, uint32_t id, uint32_
 
 /* One tick passes: interval timers come nearer and those due fire; then the clock, if set, goes on, up to its last tick
  * in 2099, and dated timers that it reaches fire. Writes id, routine and user data of each timer that fires to the list:
- * interval timers first, in the order of their starts, then dated ones by date, the earlier start first among equals.
+ * interval timers first, in the order of their starts, where a periodic one's last going back counts as its start; then
+ * dated ones by date, the earlier start first among equals.
  * Answers how many; list words after those stay.
  * HC_LIST_TOO_SHORT: fewer than HC_LIST_WORDS(N) words of list; the tick is not counted. */
 uint32_t hc_tick(uint32_t *table, size_t words, uint32_t *fired, size_t fired_words, uint32_t *count);

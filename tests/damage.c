@@ -10,7 +10,8 @@
 static struct oracle original;     /* the state before any damage */
 static struct oracle served;       /* what a table that is still sound after it holds */
 static struct outcome expected;
-static uint64_t calls, refused, harmless, broken_alone[PARTS];
+static uint64_t calls, refused, harmless;
+static bool broken_alone[PARTS], broken_by[PARTS][KINDS + 1];       /* by a slot of the kind, or above the last */
 
 /* The undamaged table, and its place in memory: at its start, or ending at its end. */
 static uint32_t base[MAX_TABLE];
@@ -20,7 +21,7 @@ static uint32_t *table;
 
 static uint32_t some_value(uint32_t word)
 {
-    static const uint32_t limits[] = {0, 0, 1, 2, 3, 4, 5, 6, MAX_SLOTS, MAX_SLOTS + 1, MAX_TICKS_PER_SECOND - 1,
+    static const uint32_t limits[] = {0, 0, 1, 2, 3, 4, 5, 6, 7, 8, MAX_SLOTS, MAX_SLOTS + 1, MAX_TICKS_PER_SECOND - 1,
                                       MAX_TICKS_PER_SECOND, MAX_TICKS_PER_SECOND + 1, LAST_SECOND, LAST_SECOND + 1,
                                       0x80000000u, 0xffffffffu};
     switch (below(7)) {
@@ -121,13 +122,26 @@ static void choose_call(struct call *c)
         c->words = slice;
 }
 
-static void expect(const struct call *c, uint32_t broken)
+static void note_alone(uint32_t broken, uint32_t kinds)
 {
+    int part = 0;
+    while (!(broken >> part & 1))
+        part++;
+    if (broken != 1u << part)
+        return;
+    broken_alone[part] = true;
+    for (uint32_t kind = 0; kind <= KINDS; kind++)
+        if (kinds == 1u << kind)
+            broken_by[part][kind] = true;
+}
+
+static void expect(const struct call *c)
+{
+    uint32_t kinds, broken = oracle_broken(table, slice, &kinds);
     if (broken && c->kind != LAY_OUT) {
         oracle_refuse_unsound(c, table, &expected);
         refused++;
-        for (int i = 0; i < PARTS; i++)
-            broken_alone[i] += broken == 1u << i;
+        note_alone(broken, kinds);
         return;
     }
     if (!broken)
@@ -143,18 +157,24 @@ static void try_one(size_t tail)
     choose_call(&c);
     place.call = &c, place.memory = &table_memory, place.words = table, place.number++, calls++;
     place.list = slice_of(&list_memory, c.fired_words, at_start);
-    expect(&c, oracle_broken(table, slice));
+    expect(&c);
     try_call(&expected, &served);
 }
 
 static unsigned parts_not_met(void)
 {
     unsigned missing = 0;
-    for (int i = 0; i < PARTS; i++)
-        if (broken_alone[i] == 0) {
+    for (int i = 0; i < PARTS; i++) {
+        if (!broken_alone[i]) {
             printf("  not met: a table not sound for this alone: %s\n", part_texts[i]);
             missing++;
         }
+        for (uint32_t kind = 0; kind <= KINDS; kind++)
+            if (oracle_breaks((enum part)i, kind) && !broken_by[i][kind]) {
+                printf("  not met: a table not sound for this alone: %s, kind %" PRIu32 "\n", part_texts[i], kind);
+                missing++;
+            }
+    }
     return missing;
 }
 
@@ -179,7 +199,7 @@ int main(int count, char **arguments)
     printf("damage: seed %" PRIu64 ", %" PRIu64 " calls on %" PRIu64 " tables; %" PRIu64 " refused as not sound, %" PRIu64
            " on tables still sound\n", seed, calls, place.table, refused, harmless);
     report_met();
-    unsigned missing = report_not_met() + parts_not_met();
+    unsigned missing = statuses_not_met() + turns_not_met(TURNS) + parts_not_met();
     place.call = NULL, place.table = 0;
     if (missing)
         fail("%u cases were not met", missing);

@@ -1,4 +1,5 @@
-/* The specification's own cases, both sides of each edge, and its session with the ten lines that it prints. */
+/* The specification's own cases, both sides of each edge, and its session with the ten lines that it prints; cases of the
+ * same kind for the calls that were added since. */
 #include "harness.h"
 
 #include <inttypes.h>
@@ -13,7 +14,7 @@ _Static_assert(HC_TABLE_WORDS(255) == 2050 && HC_LIST_WORDS(255) == 765, "the he
 
 enum { SLOTS = 3, WORDS = HC_TABLE_WORDS(SLOTS), LIST = HC_LIST_WORDS(SLOTS), ONE_SLOT_WORDS = HC_TABLE_WORDS(1) };
 static uint32_t table[WORDS], list[LIST], answer;
-static const uint32_t one = ID_BASE + 1, two = ID_BASE + 2;
+static const uint32_t one = ID_BASE + 1, two = ID_BASE + 2, three = ID_BASE + 3;
 static unsigned checks;
 
 static void is(const char *what, uint32_t expected, uint32_t came)
@@ -71,6 +72,11 @@ static uint32_t fire_after(uint32_t id, uint32_t ticks, uint32_t routine, uint32
 static uint32_t fire_when(uint32_t id, struct hc_wall_time time)
 {
     return make((struct call){.kind = FIRE_WHEN, .id = id, .time = time, .routine = 7, .data = 70});
+}
+
+static uint32_t fire_every(uint32_t id, uint32_t ticks, uint32_t routine, uint32_t data)
+{
+    return make((struct call){.kind = FIRE_EVERY, .id = id, .ticks = ticks, .routine = routine, .data = data});
 }
 
 static uint32_t reset(uint32_t id)
@@ -151,6 +157,118 @@ static void cancels(void)
     is("it waits again", 5, answer);
 }
 
+static uint32_t kind(uint32_t index)
+{
+    return table[slot_at(index, SLOT_KIND)];
+}
+
+/* So many ticks pass that fire none. */
+static void nothing_fires(int ticks)
+{
+    for (int i = 0; i < ticks; i++) {
+        is("tick", 0, tick());
+        is("nothing fires", 0, answer);
+    }
+}
+
+/* A tick passes that fires these timers, in this order; 0 for none. */
+static void fires(uint32_t first, uint32_t second, uint32_t third)
+{
+    const uint32_t ids[] = {first, second, third};
+    uint32_t count = 0;
+    is("tick", 0, tick());
+    while (count < 3 && ids[count] != 0)
+        is("it fires in its turn", ids[count], list[fired_at(count, FIRED_ID)]), count++;
+    is("no other fires", count, answer);
+}
+
+static void periodic_refusals(void)
+{
+    fresh();
+    is("fire every, ticks 0 and routine 0", 10, fire_every(one, 0, 0, 70));
+    is("fire every, routine 0 and no such timer", 9, fire_every(ID_BASE, 3, 0, 70));
+    is("fire every, a free slot", 4, fire_every(three, 3, 7, 70));
+    is("it is not started", KIND_NEVER_STARTED, kind(1));
+    is("fire after", 0, fire_after(one, 5, 7, 70));
+    is("refused fire every", 10, fire_every(one, 0, 7, 70));
+    is("it waits once still", KIND_TICKING, kind(1));
+    is("ticks 4294967295", 0, fire_every(one, 4294967295u, 7, 70));
+    is("ticks left", 0, ticks_left(one));
+    is("all of them", 4294967295u, answer);
+}
+
+static void every_multiple(void)
+{
+    fresh();
+    is("fire every 3", 0, fire_every(one, 3, 7, 70));
+    for (uint32_t n = 1; n <= 12; n++) {
+        is("ticks left", 0, ticks_left(one));
+        is("up to the next multiple", 3 - (n - 1) % 3, answer);
+        is("tick", 0, tick());
+        is("it fires at every multiple of 3", n % 3 == 0, answer);
+        is("it waits as periodic", KIND_PERIODIC, kind(1));
+    }
+    is("its entry", one, list[FIRED_ID]);
+    is("its routine", 7, list[FIRED_ROUTINE]);
+    is("its data", 70, list[FIRED_DATA]);
+    is("set clock", 0, set_clock(at(2000, 1, 1, 0, 0, 0)));
+    is("ticks left", 0, ticks_left(one));
+    is("the clock does not change them", 3, answer);
+    is("fire every 1", 0, fire_every(one, 1, 7, 70));
+    fires(one, 0, 0);
+    fires(one, 0, 0);
+}
+
+static void periodic_stops(void)
+{
+    fresh();
+    is("fire every 3", 0, fire_every(one, 3, 7, 70));
+    nothing_fires(2);
+    is("reset", 0, reset(one));
+    is("it waits as periodic", KIND_PERIODIC, kind(1));
+    nothing_fires(2);
+    fires(one, 0, 0);
+    nothing_fires(1);
+    is("cancel", 0, cancel(one));
+    is("it is idle as periodic", KIND_IDLE_PERIODIC, kind(1));
+    is("ticks left", 0, ticks_left(one));
+    is("none", 0, answer);
+    nothing_fires(4);
+    is("reset after cancel", 0, reset(one));
+    is("it waits as periodic again", KIND_PERIODIC, kind(1));
+    nothing_fires(2);
+    fires(one, 0, 0);
+    is("fire after", 0, fire_after(one, 2, 7, 70));
+    nothing_fires(1);
+    fires(one, 0, 0);
+    is("it fired once", KIND_IDLE_TICKING, kind(1));
+    nothing_fires(4);
+    is("fire every", 0, fire_every(one, 2, 7, 70));
+    is("delete", 0, delete(one));
+    is("its slot is free", KIND_FREE, kind(1));
+    nothing_fires(4);
+}
+
+/* The first one goes back at ticks 2 and 4, the second at 3: at 6 the second fires first. The third is started for the same
+ * tick after both. */
+static void periodic_order(void)
+{
+    fresh();
+    is("create", 0, create(3));
+    is("fire every 2", 0, fire_every(one, 2, 7, 70));
+    is("fire every 3", 0, fire_every(two, 3, 8, 80));
+    nothing_fires(1);
+    fires(one, 0, 0);
+    fires(two, 0, 0);
+    fires(one, 0, 0);
+    is("fire after 2", 0, fire_after(three, 2, 9, 90));
+    nothing_fires(1);
+    fires(two, one, three);
+    is("fire after 2", 0, fire_after(three, 2, 9, 90));
+    nothing_fires(1);
+    fires(one, three, 0);
+}
+
 static void single_slot(void)
 {
     words = ONE_SLOT_WORDS;
@@ -205,6 +323,10 @@ int main(void)
     cancels();
     single_slot();
     session();
+    periodic_refusals();
+    every_multiple();
+    periodic_stops();
+    periodic_order();
     printf("edges: %u checks\n", checks);
     return 0;
 }

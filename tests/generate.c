@@ -203,8 +203,9 @@ static enum call_kind random_kind(void)
     static const enum call_kind weights[] = {
         CREATE, CREATE, CREATE, CREATE, CREATE, IDENT, IDENT, CANCEL, CANCEL, DELETE, DELETE,
         FIRE_AFTER, FIRE_AFTER, FIRE_AFTER, FIRE_AFTER, FIRE_AFTER, FIRE_AFTER, FIRE_WHEN, FIRE_WHEN, FIRE_WHEN, FIRE_WHEN,
-        FIRE_WHEN, FIRE_WHEN, RESET, RESET, RESET, TICKS_LEFT, TICKS_LEFT, TICKS_LEFT, TICK, TICK, TICK, TICK, TICK, TICK,
-        TICK, TICK, TICK, TICK, SET_CLOCK, SET_CLOCK, SET_CLOCK, GET_CLOCK, GET_CLOCK};
+        FIRE_WHEN, FIRE_WHEN, FIRE_EVERY, FIRE_EVERY, FIRE_EVERY, FIRE_EVERY, RESET, RESET, RESET, TICKS_LEFT, TICKS_LEFT,
+        TICKS_LEFT, TICK, TICK, TICK, TICK, TICK, TICK, TICK, TICK, TICK, TICK, SET_CLOCK, SET_CLOCK, SET_CLOCK, GET_CLOCK,
+        GET_CLOCK};
     return ONE_OF(weights);
 }
 
@@ -254,6 +255,7 @@ static void random_timer(struct oracle *o, struct oracle_timer *t)
     t->waiting = !one_in(4);
     t->started = one_in(2) ? BY_DATE : BY_INTERVAL;
     if (t->started == BY_INTERVAL) {
+        t->periodic = one_in(3);
         t->interval = left == 0 ? 1 : left;
         t->due = o->ticks + (one_in(2) ? t->interval : 1 + below(t->interval));
     } else {

@@ -134,6 +134,7 @@ static void describe_arguments(const struct call *c, char *text, size_t size)
         snprintf(text, size, ", id 0x%" PRIx32, c->id);
         break;
     case FIRE_AFTER:
+    case FIRE_EVERY:
         snprintf(text, size, ", id 0x%" PRIx32 ", ticks %" PRIu32 ", routine %" PRIu32 ", data %" PRIu32, c->id, c->ticks,
                  c->routine, c->data);
         break;
@@ -287,6 +288,8 @@ static uint32_t call_library(const void *arguments)
         return hc_fire_after(table, c->words, c->id, c->ticks, c->routine, c->data);
     case FIRE_WHEN:
         return hc_fire_when(table, c->words, c->id, time, c->routine, c->data);
+    case FIRE_EVERY:
+        return hc_fire_every(table, c->words, c->id, c->ticks, c->routine, c->data);
     case RESET:
         return hc_reset(table, c->words, c->id);
     case TICKS_LEFT:
@@ -419,11 +422,17 @@ static void compare(const struct came *came, const struct outcome *expected)
 enum { STATUSES = 102 };
 static uint64_t by_status[CALLS][STATUSES], by_reason[CALLS][REASONS];
 static bool by_pair[CALLS][STATUSES][STATUSES];
+static bool taken_by_kind[CALLS][KINDS], refused_by_kind[CALLS][KINDS];    /* with the id of a timer of the kind */
+static uint32_t turns_met;
 
-static void note(enum call_kind kind, const struct outcome *outcome)
+static void note(enum call_kind kind, const struct outcome *outcome, const struct oracle *after)
 {
+    bool accepted = outcome->status == HC_SUCCESSFUL;
     by_status[kind][outcome->status]++;
     by_reason[kind][outcome->reason]++;
+    (accepted ? taken_by_kind : refused_by_kind)[kind][outcome->timer_kind] = true;
+    if (kind == TICK && accepted)
+        turns_met |= oracle_turns(after, outcome);
     for (int reason = 1; reason < REASONS; reason++)
         if (outcome->applying >> reason & 1)
             by_pair[kind][outcome->status][reason_statuses[reason]] = true;
@@ -444,7 +453,7 @@ void try_call(const struct outcome *expected, const struct oracle *after)
         expect_words(expected, after);
     perform(place.call, place.words, place.list, &came);
     compare(&came, expected);
-    note(place.call->kind, expected);
+    note(place.call->kind, expected, after);
 }
 
 void report_met(void)
@@ -471,7 +480,38 @@ static unsigned pairs_not_met(int kind)
     return missing;
 }
 
-unsigned report_not_met(void)
+static unsigned kind_not_met(enum call_kind kind, uint32_t timer)
+{
+    bool not_taken = oracle_takes(kind, timer) && !taken_by_kind[kind][timer];
+    bool not_refused = oracle_refuses(kind, timer) && !refused_by_kind[kind][timer];
+    if (not_taken)
+        printf("  not met: %s accepted for a timer of kind %" PRIu32 "\n", call_names[kind], timer);
+    if (not_refused)
+        printf("  not met: %s refused for a timer of kind %" PRIu32 "\n", call_names[kind], timer);
+    return (unsigned)not_taken + not_refused;
+}
+
+unsigned kinds_not_met(void)
+{
+    unsigned missing = 0;
+    for (int kind = 0; kind < CALLS; kind++)
+        for (uint32_t timer = 0; timer < KINDS; timer++)
+            missing += kind_not_met((enum call_kind)kind, timer);
+    return missing;
+}
+
+unsigned turns_not_met(int turns)
+{
+    unsigned missing = 0;
+    for (int turn = 0; turn < turns; turn++)
+        if (!(turns_met >> turn & 1)) {
+            printf("  not met: a tick in which %s\n", turn_texts[turn]);
+            missing++;
+        }
+    return missing;
+}
+
+unsigned statuses_not_met(void)
 {
     unsigned missing = 0;
     for (int kind = 0; kind < CALLS; kind++) {

@@ -67,6 +67,11 @@ void describe_time(const struct hc_wall_time *time, char text[TIME_TEXT]);
 
 /* ---- What was met ---- */
 void report_met(void);
-unsigned report_not_met(void);  /* prints each case not met and gives their number */
+
+/* Each prints the cases that were not met and gives their number: statuses of each call, and where two apply; calls with the
+ * id of a timer of each kind; so many of the turns that a tick may take. */
+unsigned statuses_not_met(void);
+unsigned kinds_not_met(void);
+unsigned turns_not_met(int turns);
 
 #endif

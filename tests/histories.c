@@ -7,13 +7,16 @@
 
 #include <inttypes.h>
 #include <stdio.h>
+#include <stdlib.h>
 #include <string.h>
 
-/* A start that has not ended. The vector holds them in the order in which they were made. */
+/* A start that has not ended. The vector holds them in the order in which they were made; a periodic one that fires goes to
+ * the end, since its going back counts as a start for the order among equals. */
 struct start {
     uint32_t id, ticks, routine, data;
-    bool by_date;
-    uint64_t due;       /* the accepted tick, or the date in seconds */
+    bool by_date, periodic;
+    uint64_t begun;     /* after so many accepted ticks */
+    uint64_t date;      /* in seconds */
 };
 static struct start waiting[MAX_SLOTS + 1];
 static uint32_t waiting_count;
@@ -25,7 +28,7 @@ static bool exists[MAX_SLOTS + 1];      /* from its create to its delete or a la
 static uint64_t ticks, clock_ticks;     /* accepted ticks since lay out; the clock, counted in ticks */
 static bool clock_set;
 static uint32_t slots, ticks_per_second;
-static uint64_t calls, fired_in_all, accepted[CALLS];
+static uint64_t calls, fired_in_all, fired_again, accepted[CALLS];
 static uint32_t span;
 
 /* ---- Starts ---- */
@@ -50,27 +53,80 @@ static void begin_start(struct start start)
     last[start.id - ID_BASE] = start;
 }
 
-/* The first of the starts by tick or by date that is due by then: the least due, of equals the earlier start. */
-static int first_due(bool by_date, uint64_t limit)
+/* In the tick that has come: the nth after a start for n ticks, and every multiple of n after a periodic one. */
+static bool due_now(const struct start *s)
 {
-    int first = -1;
-    for (uint32_t i = 0; i < waiting_count; i++)
-        if (waiting[i].by_date == by_date && waiting[i].due <= limit &&
-            (first < 0 || waiting[i].due < waiting[first].due))
-            first = (int)i;
-    return first;
+    uint64_t passed = ticks - s->begun;
+    return s->periodic ? passed % s->ticks == 0 : passed == s->ticks;
 }
 
-static uint32_t fire(bool by_date, uint64_t limit, uint32_t *list)
+/* The tick or the date at which it is due next. */
+static uint64_t next_due(const struct start *s)
+{
+    if (s->by_date)
+        return s->date;
+    uint64_t multiples = s->periodic ? (ticks - s->begun) / s->ticks : 0;
+    return s->begun + (multiples + 1) * s->ticks;
+}
+
+static void enter(uint32_t *list, uint32_t k, const struct start *s)
+{
+    list[fired_at(k, FIRED_ID)] = s->id;
+    list[fired_at(k, FIRED_ROUTINE)] = s->routine;
+    list[fired_at(k, FIRED_DATA)] = s->data;
+}
+
+/* All are due at the same tick: the earlier start fires first, where a going back counts as one. */
+static uint32_t fire_ticking(uint32_t *list)
+{
+    uint32_t count = 0, at = 0;
+    for (uint32_t starts = waiting_count; starts > 0; starts--) {
+        struct start s = waiting[at];
+        if (s.by_date || !due_now(&s)) {
+            at++;
+            continue;
+        }
+        enter(list, count++, &s);
+        end_start(at);
+        if (s.periodic)
+            waiting[waiting_count++] = s;
+        fired_again += s.periodic && ticks - s.begun > s.ticks;
+    }
+    return count;
+}
+
+struct due {
+    uint64_t due;
+    uint32_t place_in_list;
+};
+
+static int by_due_then_place(const void *left, const void *right)
+{
+    const struct due *a = left, *b = right;
+    if (a->due != b->due)
+        return a->due < b->due ? -1 : 1;
+    return a->place_in_list < b->place_in_list ? -1 : 1;
+}
+
+/* The starts by tick or by date in firing order. */
+static uint32_t in_order(bool by_date, struct due *order)
 {
     uint32_t count = 0;
-    for (int i = first_due(by_date, limit); i >= 0; i = first_due(by_date, limit)) {
-        list[fired_at(count, FIRED_ID)] = waiting[i].id;
-        list[fired_at(count, FIRED_ROUTINE)] = waiting[i].routine;
-        list[fired_at(count, FIRED_DATA)] = waiting[i].data;
-        count++;
-        end_start((uint32_t)i);
-    }
+    for (uint32_t i = 0; i < waiting_count; i++)
+        if (waiting[i].by_date == by_date)
+            order[count++] = (struct due){next_due(&waiting[i]), i};
+    qsort(order, count, sizeof *order, by_due_then_place);
+    return count;
+}
+
+static uint32_t fire_dated(uint64_t second, uint32_t *list)
+{
+    struct due order[MAX_SLOTS];
+    uint32_t count = 0, dated = in_order(true, order);
+    for (; count < dated && order[count].due <= second; count++)
+        enter(list, count, &waiting[order[count].place_in_list]);
+    for (uint32_t k = 0; k < count; k++)
+        end_starts_of(list[fired_at(k, FIRED_ID)]);
     return count;
 }
 
@@ -99,19 +155,19 @@ static void expect_list(const struct came *came, const uint32_t *list, uint32_t 
 static uint32_t after_tick(uint32_t *list)
 {
     ticks++;
-    uint32_t count = fire(false, ticks, list);
+    uint32_t count = fire_ticking(list);
     if (!clock_set)
         return count;
     if (clock_ticks < ((uint64_t)LAST_SECOND + 1) * ticks_per_second - 1)
         clock_ticks++;
-    return count + fire(true, clock_ticks / ticks_per_second, list + list_words(count));
+    return count + fire_dated(clock_ticks / ticks_per_second, list + list_words(count));
 }
 
 static uint32_t after_set_clock(const struct call *c, uint32_t *list)
 {
     clock_set = true;
     clock_ticks = libc_seconds_of(&c->time) * ticks_per_second;
-    return fire(true, clock_ticks / ticks_per_second, list);
+    return fire_dated(clock_ticks / ticks_per_second, list);
 }
 
 static void expect_ticks_left(const struct call *c, const struct came *came)
@@ -119,7 +175,7 @@ static void expect_ticks_left(const struct call *c, const struct came *came)
     uint64_t left = 0;
     for (uint32_t i = 0; i < waiting_count; i++)
         if (waiting[i].id == c->id && !waiting[i].by_date)
-            left = waiting[i].due - ticks;
+            left = next_due(&waiting[i]) - ticks;
     if (came->answer != left)
         fail("expected %" PRIu64 " ticks left, came %" PRIu32, left, came->answer);
 }
@@ -156,7 +212,7 @@ static void after_reset(const struct call *c)
     struct start again = last[c->id - ID_BASE];
     if (again.ticks == 0)
         fail("expected a refusal, since the last start was not by ticks, came status 0");
-    again.due = ticks + again.ticks;
+    again.begun = ticks;
     begin_start(again);
 }
 
@@ -181,10 +237,13 @@ static void learn(const struct call *c, const struct came *came, const uint32_t 
         exists[c->id - ID_BASE] = false;
         break;
     case FIRE_AFTER:
-        begin_start((struct start){c->id, c->ticks, c->routine, c->data, false, ticks + c->ticks});
+        begin_start((struct start){c->id, c->ticks, c->routine, c->data, false, false, ticks, 0});
         break;
     case FIRE_WHEN:
-        begin_start((struct start){c->id, 0, c->routine, c->data, true, libc_seconds_of(&c->time)});
+        begin_start((struct start){c->id, 0, c->routine, c->data, true, false, ticks, libc_seconds_of(&c->time)});
+        break;
+    case FIRE_EVERY:
+        begin_start((struct start){c->id, c->ticks, c->routine, c->data, false, true, ticks, 0});
         break;
     case RESET:
         after_reset(c);
@@ -210,16 +269,12 @@ static void learn(const struct call *c, const struct came *came, const uint32_t 
 
 static void expect_chain(bool by_date, const uint32_t *table)
 {
-    static struct start kept[MAX_SLOTS + 1];
     const char *chain = by_date ? "dated" : "interval";
-    uint32_t list[MAX_LIST], kept_count = waiting_count, before = 0;
+    struct due order[MAX_SLOTS];
+    uint32_t count = in_order(by_date, order), before = 0;
     uint32_t at = table[by_date ? HEADER_FIRST_DATED : HEADER_FIRST_TICKING];
-    memcpy(kept, waiting, sizeof kept);
-    uint32_t count = fire(by_date, UINT64_MAX, list);
-    memcpy(waiting, kept, sizeof kept);
-    waiting_count = kept_count;
     for (uint32_t i = 0; i < count; i++) {
-        uint32_t id = list[fired_at(i, FIRED_ID)];
+        uint32_t id = waiting[order[i].place_in_list].id;
         if (at == 0 || at > slots || ID_BASE + at != id)
             fail("place %" PRIu32 " of the %s chain: expected slot %" PRIu32 ", came %" PRIu32, i, chain, id - ID_BASE, at);
         uint32_t previous = table[slot_at(at, SLOT_PREVIOUS)];
@@ -245,7 +300,7 @@ static void random_time(struct hc_wall_time *t)
         second = LAST_SECOND - below(span);
         break;
     case 2:
-        second = waiting_count ? waiting[below(waiting_count)].due + below(3) - 1 : 0;
+        second = waiting_count ? next_due(&waiting[below(waiting_count)]) + below(3) - 1 : 0;
         break;
     default:
         second += below(span);
@@ -264,7 +319,8 @@ static void random_history_call(struct call *c, size_t words)
 {
     static const enum call_kind weights[] = {
         CREATE, CREATE, CREATE, CANCEL, CANCEL, DELETE, FIRE_AFTER, FIRE_AFTER, FIRE_AFTER, FIRE_AFTER, FIRE_AFTER,
-        FIRE_WHEN, FIRE_WHEN, FIRE_WHEN, RESET, RESET, TICKS_LEFT, TICK, TICK, TICK, TICK, TICK, TICK, GET_CLOCK, IDENT};
+        FIRE_WHEN, FIRE_WHEN, FIRE_WHEN, FIRE_EVERY, FIRE_EVERY, RESET, RESET, TICKS_LEFT, TICK, TICK, TICK, TICK, TICK, TICK,
+        GET_CLOCK, IDENT};
     memset(c, 0, sizeof *c);
     c->kind = ONE_OF(weights);
     if (one_in(one_in(2) ? 20 : 60))
@@ -320,8 +376,8 @@ int main(int count, char **arguments)
             make(&c, table);
         }
     }
-    printf("histories: seed %" PRIu64 ", %" PRIu64 " calls in %" PRIu64 " lists, %" PRIu64 " timers fired\n ", seed, calls,
-           place.table, fired_in_all);
+    printf("histories: seed %" PRIu64 ", %" PRIu64 " calls in %" PRIu64 " lists, %" PRIu64 " timers fired, %" PRIu64
+           " of them periodic ones again\n ", seed, calls, place.table, fired_in_all, fired_again);
     for (int i = 0; i < CALLS; i++)
         printf(" %s %" PRIu64, call_names[i], accepted[i]);
     puts(" accepted");
@@ -329,5 +385,7 @@ int main(int count, char **arguments)
     for (int i = 0; i < CALLS; i++)
         if (accepted[i] == 0)
             fail("expected %s to be accepted at times, came only refusals", call_names[i]);
+    if (fired_again == 0)
+        fail("expected periodic timers to fire again, came none");
     return 0;
 }

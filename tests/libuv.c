@@ -1,6 +1,6 @@
-/* libuv's timers on a clock of our own, one millisecond a tick, as a second timer list for interval timers: the same
- * timers must fire, in the same order among equals, each with routine and data of its last start, and as many ticks must be
- * left.
+/* libuv's timers on a clock of our own, one millisecond a tick, as a second timer list for interval timers, periodic ones as
+ * libuv's repeating ones: the same timers must fire, in the same order among equals, each with routine and data of its last
+ * start, and as many ticks must be left.
  * Arguments: seed, number of calls. */
 #define _DEFAULT_SOURCE
 #include "harness.h"
@@ -31,9 +31,12 @@ int clock_getres(clockid_t clock, struct timespec *step)
 enum { SLOTS = 200 };
 static uv_loop_t *loop;
 static uv_timer_t timers[SLOTS + 1];
-static struct { uint32_t ticks, routine, data; } last_start[SLOTS + 1];     /* ticks 0 before the first */
+static struct {
+    uint32_t ticks, routine, data;      /* ticks 0 before the first */
+    bool periodic;
+} last_start[SLOTS + 1];
 static uint32_t fired[SLOTS], fired_count;
-static uint64_t calls, fires;
+static uint64_t calls, fires, periodic_fires;
 
 static void note_fired(uv_timer_t *timer)
 {
@@ -58,15 +61,18 @@ static void make(struct call *c, uint32_t expected_status, struct came *came)
         fail("expected status %" PRIu32 ", came %" PRIu32, expected_status, came->status);
 }
 
-/* By fire after, which brings new arguments, or by reset, which takes the last ones again. */
+/* By fire after or fire every, which bring new arguments, or by reset, which takes the last ones again. */
 static void start(struct call *c, uint32_t index)
 {
     struct came came;
     make(c, 0, &came);
-    if (c->kind == FIRE_AFTER)
+    if (c->kind != RESET) {
         last_start[index].ticks = c->ticks, last_start[index].routine = c->routine, last_start[index].data = c->data;
+        last_start[index].periodic = c->kind == FIRE_EVERY;
+    }
+    uint64_t ticks = last_start[index].ticks, again = last_start[index].periodic ? ticks : 0;
     uv_must(uv_timer_stop(&timers[index]));
-    uv_must(uv_timer_start(&timers[index], note_fired, last_start[index].ticks, 0));
+    uv_must(uv_timer_start(&timers[index], note_fired, ticks, again));
 }
 
 static void expect_left(uint32_t index)
@@ -88,6 +94,7 @@ static void expect_entry(uint32_t k)
     if (routine != last_start[index].routine || data != last_start[index].data)
         fail("place %" PRIu32 " of the fired: expected routine %" PRIu32 " and data %" PRIu32 ", came %" PRIu32
              " and %" PRIu32, k, last_start[index].routine, last_start[index].data, routine, data);
+    periodic_fires += last_start[index].periodic;
 }
 
 static void tick(void)
@@ -112,7 +119,7 @@ static void one_call(void)
     struct call c = {.id = ID_BASE + index, .ticks = one_in(100) ? UINT32_MAX : ticks};
     c.routine = 1 + below(UINT32_MAX), c.data = random_word();
     struct came came;
-    switch (below(8)) {
+    switch (below(9)) {
     case 0:
     case 1:
     case 2:
@@ -120,18 +127,22 @@ static void one_call(void)
         start(&c, index);
         break;
     case 3:
+        c.kind = FIRE_EVERY;
+        start(&c, index);
+        break;
+    case 4:
         c.kind = RESET;
         if (last_start[index].ticks == 0)
             make(&c, HC_NOT_DEFINED, &came);
         else
             start(&c, index);
         break;
-    case 4:
+    case 5:
         c.kind = CANCEL;
         make(&c, 0, &came);
         uv_must(uv_timer_stop(&timers[index]));
         break;
-    case 5:
+    case 6:
         expect_left(index);
         break;
     default:
@@ -158,9 +169,9 @@ int main(int count, char **arguments)
     }
     while (calls < wanted)
         one_call();
-    printf("libuv %s: seed %" PRIu64 ", %" PRIu64 " calls, %" PRIu64 " timers fired\n", uv_version_string(), seed, calls,
-           fires);
-    if (fires == 0)
-        fail("expected timers to fire, came none");
+    printf("libuv %s: seed %" PRIu64 ", %" PRIu64 " calls, %" PRIu64 " timers fired, %" PRIu64 " of them periodic\n",
+           uv_version_string(), seed, calls, fires, periodic_fires);
+    if (periodic_fires == 0 || periodic_fires == fires)
+        fail("expected timers to fire, periodic ones and others, came none of one sort");
     return 0;
 }

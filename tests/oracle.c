@@ -4,8 +4,8 @@
 #include <stdlib.h>
 #include <string.h>
 
-const char *const call_names[CALLS] = {"lay_out", "create", "ident", "cancel", "delete", "fire_after",
-                                       "fire_when", "reset", "ticks_left", "tick", "set_clock", "get_clock"};
+const char *const call_names[CALLS] = {"lay_out", "create", "ident", "cancel", "delete", "fire_after", "fire_when",
+                                       "fire_every", "reset", "ticks_left", "tick", "set_clock", "get_clock"};
 
 const char *const reason_texts[REASONS] = {
     [ACCEPTED] = "accepted", [TABLE_NOT_SOUND] = "table not sound", [LIST_SHORT] = "list shorter than 3N words",
@@ -25,13 +25,23 @@ const uint32_t reason_statuses[REASONS] = {
     [BAD_MONTH] = 20, [BAD_DAY] = 20, [BAD_HOUR] = 20, [BAD_MINUTE] = 20, [BAD_SECOND] = 20, [DATE_NOT_AFTER] = 20,
     [NEVER_STARTED_YET] = 11, [IDLE_BY_DATE] = 11, [WAITS_FOR_DATE] = 11};
 
+const char *const turn_texts[TURNS] = {
+    [PERIODIC_AFTER_ONE_SHOT] = "a periodic timer fires after a one-shot one",
+    [ONE_SHOT_AFTER_PERIODIC] = "a one-shot timer fires after a periodic one",
+    [DATED_AFTER_PERIODIC] = "a dated timer fires after a periodic one",
+    [BACK_AFTER_EQUAL] = "a periodic timer goes back after one of the same interval",
+    [BACK_AFTER_SHORTER] = "a periodic timer goes back after one of a shorter interval",
+    [BACK_AFTER_LONGER] = "a periodic timer goes back after one of a longer interval",
+    [BACK_BEHIND_OTHER] = "a periodic timer goes back behind one that waits for the same tick",
+    [BACK_AHEAD_OF_LATER] = "a periodic timer goes back ahead of one that waits longer"};
+
 const char *const part_texts[PARTS] = {
     [PART_HEADER_SHORT] = "fewer than 10 words", [PART_SLOTS_BELOW] = "no slots", [PART_SLOTS_ABOVE] = "more than 255 slots",
     [PART_WORDS] = "fewer than 10 + 8N words",
     [PART_TPS] = "ticks in a second", [PART_CLOCK_SET] = "clock set", [PART_SECONDS] = "seconds",
     [PART_CLOCK_TICKS] = "ticks into the second", [PART_ZEROS] = "words 7 to 9",
     [PART_UNSET_CLOCK] = "words 3 and 4 of an unset clock", [PART_UNSET_DATED] = "word 6 of an unset clock",
-    [PART_KIND] = "kind above 5", [PART_FREE] = "free slot not zero", [PART_NEVER_NAME] = "kind 1 without a name",
+    [PART_KIND] = "kind above 7", [PART_FREE] = "free slot not zero", [PART_NEVER_NAME] = "kind 1 without a name",
     [PART_NEVER_REST] = "kind 1 not zero", [PART_NAME] = "name 0", [PART_ROUTINE] = "routine 0",
     [PART_INTERVAL] = "interval 0", [PART_NO_INTERVAL] = "interval of a dated timer", [PART_IDLE_WAIT] = "idle with a wait",
     [PART_IDLE_LINKS] = "idle with links", [PART_TICKING_CHAIN] = "interval chain does not meet its slots once each",
@@ -45,8 +55,9 @@ const char *const part_texts[PARTS] = {
 enum { MOST_REFUSALS = 5 };
 static const uint32_t orders[CALLS][MOST_REFUSALS] = {
     [LAY_OUT] = {10, 8}, [CREATE] = {100, 3, 5}, [IDENT] = {100, 3}, [CANCEL] = {100, 4}, [DELETE] = {100, 4},
-    [FIRE_AFTER] = {100, 10, 9, 4}, [FIRE_WHEN] = {100, 11, 9, 20, 4}, [RESET] = {100, 4, 11}, [TICKS_LEFT] = {100, 4},
-    [TICK] = {100, 101}, [SET_CLOCK] = {100, 101, 20}, [GET_CLOCK] = {100, 11}};
+    [FIRE_AFTER] = {100, 10, 9, 4}, [FIRE_WHEN] = {100, 11, 9, 20, 4}, [FIRE_EVERY] = {100, 10, 9, 4},
+    [RESET] = {100, 4, 11}, [TICKS_LEFT] = {100, 4}, [TICK] = {100, 101}, [SET_CLOCK] = {100, 101, 20},
+    [GET_CLOCK] = {100, 11}};
 
 /* ---- The calendar ---- */
 
@@ -196,6 +207,7 @@ static uint32_t faults_of(const struct oracle *o, const struct call *c)
     case TICKS_LEFT:
         return id_faults(o, c->id);
     case FIRE_AFTER:
+    case FIRE_EVERY:
         return bit(TICKS_ZERO, c->ticks == 0) | bit(ROUTINE_ZERO, c->routine == 0) | id_faults(o, c->id);
     case FIRE_WHEN:
         return fire_when_faults(o, c);
@@ -233,6 +245,7 @@ static uint32_t argument_faults(const struct call *c, const uint32_t *table)
     case TICKS_LEFT:
         return id_argument_faults(c->id);
     case FIRE_AFTER:
+    case FIRE_EVERY:
         return bit(TICKS_ZERO, c->ticks == 0) | bit(ROUTINE_ZERO, c->routine == 0) | id_argument_faults(c->id);
     case FIRE_WHEN:
         return bit(CLOCK_UNSET, clock_unset) | bit(ROUTINE_ZERO, c->routine == 0) | date_faults(&c->time) |
@@ -252,6 +265,7 @@ void oracle_refuse_unsound(const struct call *call, const uint32_t *table, struc
     outcome->status = HC_NOT_SOUND;
     outcome->reason = TABLE_NOT_SOUND;
     outcome->applying = bit(TABLE_NOT_SOUND, true) | argument_faults(call, table);
+    outcome->timer_kind = KIND_FREE;
     outcome->answer = 0;
     outcome->clock = (struct hc_wall_time){0, 0, 0, 0, 0, 0, 0};
 }
@@ -294,6 +308,16 @@ static int waiting(const struct oracle *o, int started, uint64_t limit, struct d
     return count;
 }
 
+/* Due an interval after the tick at which it was due, and behind all that wait for that tick already. (histories.c counts the
+ * multiples from the start.) */
+static void go_back(struct oracle *o, struct oracle_timer *t)
+{
+    t->waiting = true;
+    t->due += t->interval;
+    t->start = ++o->starts;
+}
+
+/* All that are due come off and are listed; then the periodic ones go back in that order. */
 static void fire_due(struct oracle *o, int started, uint64_t limit, struct outcome *out)
 {
     struct due list[MAX_SLOTS];
@@ -306,6 +330,9 @@ static void fire_due(struct oracle *o, int started, uint64_t limit, struct outco
         out->fired[fired_at(out->answer, FIRED_DATA)] = t->data;
         out->answer++;
     }
+    for (int i = 0; i < count; i++)
+        if (o->timer[list[i].index].periodic)
+            go_back(o, &o->timer[list[i].index]);
 }
 
 static void tick(struct oracle *o, struct outcome *out)
@@ -326,17 +353,15 @@ static void start(struct oracle *o, struct oracle_timer *t, const struct call *c
 {
     t->waiting = true;
     t->start = ++o->starts;
-    if (c->kind == FIRE_WHEN) {
-        uint32_t date;
-        oracle_seconds_of(&c->time, &date);
-        t->started = BY_DATE, t->interval = 0, t->due = date;
-    } else {
-        if (c->kind == FIRE_AFTER)
-            t->interval = c->ticks;
-        t->started = BY_INTERVAL, t->due = o->ticks + t->interval;
-    }
-    if (c->kind != RESET)
+    if (c->kind != RESET) {
+        t->started = c->kind == FIRE_WHEN ? BY_DATE : BY_INTERVAL;
+        t->periodic = c->kind == FIRE_EVERY;
+        t->interval = c->kind == FIRE_WHEN ? 0 : c->ticks;
         t->routine = c->routine, t->data = c->data;
+    }
+    uint32_t date;
+    oracle_seconds_of(&c->time, &date);
+    t->due = t->started == BY_DATE ? date : o->ticks + t->interval;
 }
 
 static void lay_out(struct oracle *o, const struct call *c)
@@ -379,6 +404,7 @@ static void apply(struct oracle *o, const struct call *c, struct outcome *out)
         break;
     case FIRE_AFTER:
     case FIRE_WHEN:
+    case FIRE_EVERY:
     case RESET:
         start(o, t, c);
         break;
@@ -398,8 +424,22 @@ static void apply(struct oracle *o, const struct call *c, struct outcome *out)
     }
 }
 
+static uint32_t kind_of(const struct oracle_timer *t)
+{
+    if (!t->exists)
+        return KIND_FREE;
+    if (t->started == NEVER)
+        return KIND_NEVER_STARTED;
+    if (t->started == BY_DATE)
+        return t->waiting ? KIND_DATED : KIND_IDLE_DATED;
+    if (t->periodic)
+        return t->waiting ? KIND_PERIODIC : KIND_IDLE_PERIODIC;
+    return t->waiting ? KIND_TICKING : KIND_IDLE_TICKING;
+}
+
 void oracle_call(struct oracle *state, const struct call *call, struct outcome *outcome)
 {
+    outcome->timer_kind = id_faults(state, call->id) ? KIND_FREE : kind_of(&state->timer[call->id - ID_BASE]);
     outcome->answer = 0;
     outcome->clock = (struct hc_wall_time){0, 0, 0, 0, 0, 0, 0};
     outcome->applying = faults_of(state, call);
@@ -410,17 +450,6 @@ void oracle_call(struct oracle *state, const struct call *call, struct outcome *
 }
 
 /* ---- Words ---- */
-
-static uint32_t kind_of(const struct oracle_timer *t)
-{
-    if (!t->exists)
-        return KIND_FREE;
-    if (t->started == NEVER)
-        return KIND_NEVER_STARTED;
-    if (t->started == BY_INTERVAL)
-        return t->waiting ? KIND_TICKING : KIND_IDLE_TICKING;
-    return t->waiting ? KIND_DATED : KIND_IDLE_DATED;
-}
 
 /* Writes the links and waits of the timers that wait by this kind of start; gives the first. */
 static uint32_t encode_chain(const struct oracle *o, int started, uint32_t *table)
@@ -450,6 +479,16 @@ void oracle_encode(const struct oracle *o, uint32_t *table)
     memcpy(table, header, sizeof header);
 }
 
+static bool waits_for_ticks(uint32_t kind)
+{
+    return kind == KIND_TICKING || kind == KIND_PERIODIC;
+}
+
+static bool waits_for_date(uint32_t kind)
+{
+    return kind == KIND_DATED;
+}
+
 static void decode_chain(const uint32_t *table, uint32_t first, struct oracle *o)
 {
     uint64_t sum = 0;
@@ -472,11 +511,10 @@ void oracle_decode(const uint32_t *table, struct oracle *o)
         uint32_t kind = w[SLOT_KIND];
         struct oracle_timer *t = &o->timer[i];
         t->exists = kind != KIND_FREE;
-        t->waiting = kind == KIND_TICKING || kind == KIND_DATED;
-        if (kind == KIND_IDLE_TICKING || kind == KIND_TICKING)
-            t->started = BY_INTERVAL;
-        if (kind == KIND_IDLE_DATED || kind == KIND_DATED)
-            t->started = BY_DATE;
+        t->waiting = waits_for_ticks(kind) || waits_for_date(kind);
+        t->periodic = kind == KIND_PERIODIC || kind == KIND_IDLE_PERIODIC;
+        if (kind >= KIND_IDLE_TICKING)
+            t->started = kind == KIND_IDLE_DATED || kind == KIND_DATED ? BY_DATE : BY_INTERVAL;
         t->name = w[SLOT_NAME], t->interval = w[SLOT_INTERVAL], t->routine = w[SLOT_ROUTINE], t->data = w[SLOT_DATA];
     }
     decode_chain(table, table[HEADER_FIRST_TICKING], o);
@@ -488,9 +526,23 @@ void oracle_decode(const uint32_t *table, struct oracle *o)
 /* A slot count that is too high is read on with up to so many, to tell whether that alone is wrong. */
 enum { MOST_READ = 300 };
 
-static uint32_t broken_if(bool broken, enum part part)
+/* The parts that are broken, and the kinds of the slots that break them. */
+struct broken {
+    uint32_t parts, kinds;
+};
+
+static void breaks(struct broken *found, bool broken, enum part part)
 {
-    return broken ? 1u << part : 0;
+    if (broken)
+        found->parts |= 1u << part;
+}
+
+static void slot_breaks(struct broken *found, bool broken, enum part part, const uint32_t *slot)
+{
+    uint32_t kind = slot[SLOT_KIND] < KINDS ? slot[SLOT_KIND] : KINDS;
+    if (broken)
+        found->kinds |= 1u << kind;
+    breaks(found, broken, part);
 }
 
 static bool all_zero(const uint32_t *words, enum slot_word from)
@@ -501,109 +553,156 @@ static bool all_zero(const uint32_t *words, enum slot_word from)
     return true;
 }
 
-static uint32_t broken_started(const uint32_t *w)
+static bool idle(uint32_t kind)
 {
-    bool by_interval = w[SLOT_KIND] == KIND_IDLE_TICKING || w[SLOT_KIND] == KIND_TICKING;
-    bool idle = w[SLOT_KIND] == KIND_IDLE_TICKING || w[SLOT_KIND] == KIND_IDLE_DATED;
-    return broken_if(w[SLOT_NAME] == 0, PART_NAME) | broken_if(w[SLOT_ROUTINE] == 0, PART_ROUTINE) |
-           broken_if(by_interval && w[SLOT_INTERVAL] == 0, PART_INTERVAL) |
-           broken_if(!by_interval && w[SLOT_INTERVAL] != 0, PART_NO_INTERVAL) |
-           broken_if(idle && w[SLOT_WAIT] != 0, PART_IDLE_WAIT) |
-           broken_if(idle && (w[SLOT_NEXT] != 0 || w[SLOT_PREVIOUS] != 0), PART_IDLE_LINKS);
+    return kind == KIND_IDLE_TICKING || kind == KIND_IDLE_DATED || kind == KIND_IDLE_PERIODIC;
 }
 
-static uint32_t broken_slot(const uint32_t *w)
+static void check_started(const uint32_t *w, struct broken *found)
+{
+    bool by_date = w[SLOT_KIND] == KIND_IDLE_DATED || w[SLOT_KIND] == KIND_DATED;
+    slot_breaks(found, w[SLOT_NAME] == 0, PART_NAME, w);
+    slot_breaks(found, w[SLOT_ROUTINE] == 0, PART_ROUTINE, w);
+    slot_breaks(found, !by_date && w[SLOT_INTERVAL] == 0, PART_INTERVAL, w);
+    slot_breaks(found, by_date && w[SLOT_INTERVAL] != 0, PART_NO_INTERVAL, w);
+    slot_breaks(found, idle(w[SLOT_KIND]) && w[SLOT_WAIT] != 0, PART_IDLE_WAIT, w);
+    slot_breaks(found, idle(w[SLOT_KIND]) && (w[SLOT_NEXT] != 0 || w[SLOT_PREVIOUS] != 0), PART_IDLE_LINKS, w);
+}
+
+static void check_slot(const uint32_t *w, struct broken *found)
 {
     switch (w[SLOT_KIND]) {
     case KIND_FREE:
-        return broken_if(!all_zero(w, SLOT_NAME), PART_FREE);
+        slot_breaks(found, !all_zero(w, SLOT_NAME), PART_FREE, w);
+        break;
     case KIND_NEVER_STARTED:
-        return broken_if(w[SLOT_NAME] == 0, PART_NEVER_NAME) | broken_if(!all_zero(w, SLOT_INTERVAL), PART_NEVER_REST);
+        slot_breaks(found, w[SLOT_NAME] == 0, PART_NEVER_NAME, w);
+        slot_breaks(found, !all_zero(w, SLOT_INTERVAL), PART_NEVER_REST, w);
+        break;
     case KIND_IDLE_TICKING:
     case KIND_IDLE_DATED:
     case KIND_TICKING:
     case KIND_DATED:
-        return broken_started(w);
+    case KIND_PERIODIC:
+    case KIND_IDLE_PERIODIC:
+        check_started(w, found);
+        break;
     default:
-        return broken_if(true, PART_KIND);
+        slot_breaks(found, true, PART_KIND, w);
     }
 }
 
-/* Follows the chain and notes its slots in their order; false unless it meets each slot of the kind once, no other,
- * and ends at 0. */
-static bool follow(const uint32_t *table, enum header_word first, uint32_t kind, uint32_t *met, uint32_t *count)
+/* A chain: where it begins, which kinds stand in it, what is broken if it does not meet each of their slots once, and no
+ * other, and what if a previous link is wrong. */
+struct chain {
+    enum header_word first;
+    bool (*holds)(uint32_t kind);
+    enum part chain_part, previous_part;
+};
+static const struct chain ticking_chain = {HEADER_FIRST_TICKING, waits_for_ticks, PART_TICKING_CHAIN, PART_TICKING_PREVIOUS};
+static const struct chain dated_chain = {HEADER_FIRST_DATED, waits_for_date, PART_DATED_CHAIN, PART_DATED_PREVIOUS};
+
+/* Follows the chain and notes its slots in their order, and how often each comes; false unless it ends at 0. */
+static bool follow(const uint32_t *table, const struct chain *chain, uint32_t *met, uint32_t *count, uint32_t *times)
 {
-    uint32_t times[MOST_READ + 1] = {0}, slots = table[HEADER_SLOTS];
     *count = 0;
-    for (uint32_t i = table[first]; i != 0; i = table[slot_at(i, SLOT_NEXT)]) {
-        if (i > slots || *count == slots)
+    for (uint32_t i = table[chain->first]; i != 0; i = table[slot_at(i, SLOT_NEXT)]) {
+        if (i > table[HEADER_SLOTS] || *count == table[HEADER_SLOTS])
             return false;
         times[i]++;
         met[(*count)++] = i;
     }
-    for (uint32_t i = 1; i <= slots; i++)
-        if (times[i] != (table[slot_at(i, SLOT_KIND)] == kind ? 1 : 0))
-            return false;
     return true;
 }
 
-static uint32_t broken_ticking(const uint32_t *table)
+/* The chain's slots in their order; their number, or 0 where it does not meet the right ones once each. */
+static uint32_t check_links(const uint32_t *table, const struct chain *chain, uint32_t *met, struct broken *found)
 {
-    uint32_t met[MOST_READ], count, broken = 0;
-    if (!follow(table, HEADER_FIRST_TICKING, KIND_TICKING, met, &count))
-        return broken_if(true, PART_TICKING_CHAIN);
+    uint32_t times[MOST_READ + 1] = {0}, count;
+    if (!follow(table, chain, met, &count, times)) {
+        breaks(found, true, chain->chain_part);
+        return 0;
+    }
+    bool once_each = true;
+    for (uint32_t i = 1; i <= table[HEADER_SLOTS]; i++) {
+        const uint32_t *w = table + slot_at(i, SLOT_KIND);
+        bool once = times[i] == (chain->holds(w[SLOT_KIND]) ? 1 : 0);
+        slot_breaks(found, !once, chain->chain_part, w);
+        once_each = once_each && once;
+    }
+    if (!once_each)
+        return 0;
+    for (uint32_t i = 0; i < count; i++) {
+        const uint32_t *w = table + slot_at(met[i], SLOT_KIND);
+        slot_breaks(found, w[SLOT_PREVIOUS] != (i > 0 ? met[i - 1] : 0), chain->previous_part, w);
+    }
+    return count;
+}
+
+static void check_ticking(const uint32_t *table, struct broken *found)
+{
+    uint32_t met[MOST_READ], count = check_links(table, &ticking_chain, met, found);
     uint64_t left = 0;
     for (uint32_t i = 0; i < count; i++) {
         const uint32_t *w = table + slot_at(met[i], SLOT_KIND);
         left += w[SLOT_WAIT];
-        broken |= broken_if(w[SLOT_PREVIOUS] != (i > 0 ? met[i - 1] : 0), PART_TICKING_PREVIOUS);
-        broken |= broken_if(i == 0 && w[SLOT_WAIT] == 0, PART_FIRST_WAIT);
-        broken |= broken_if(left > w[SLOT_INTERVAL], PART_LEFT);
+        slot_breaks(found, i == 0 && w[SLOT_WAIT] == 0, PART_FIRST_WAIT, w);
+        slot_breaks(found, left > w[SLOT_INTERVAL], PART_LEFT, w);
     }
-    return broken;
 }
 
-static uint32_t broken_dated(const uint32_t *table)
+static void check_dated(const uint32_t *table, struct broken *found)
 {
-    uint32_t met[MOST_READ], count, broken = 0, before = 0;
-    if (!follow(table, HEADER_FIRST_DATED, KIND_DATED, met, &count))
-        return broken_if(true, PART_DATED_CHAIN);
+    uint32_t met[MOST_READ], count = check_links(table, &dated_chain, met, found), before = 0;
     for (uint32_t i = 0; i < count; i++) {
         const uint32_t *w = table + slot_at(met[i], SLOT_KIND);
-        broken |= broken_if(w[SLOT_PREVIOUS] != (i > 0 ? met[i - 1] : 0), PART_DATED_PREVIOUS);
-        broken |= broken_if(w[SLOT_WAIT] <= table[HEADER_SECONDS], PART_DATE_ABOVE);
-        broken |= broken_if(w[SLOT_WAIT] > LAST_SECOND, PART_DATE_LAST);
-        broken |= broken_if(i > 0 && w[SLOT_WAIT] < before, PART_DATES_RISE);
+        slot_breaks(found, w[SLOT_WAIT] <= table[HEADER_SECONDS], PART_DATE_ABOVE, w);
+        slot_breaks(found, w[SLOT_WAIT] > LAST_SECOND, PART_DATE_LAST, w);
+        slot_breaks(found, i > 0 && w[SLOT_WAIT] < before, PART_DATES_RISE, w);
         before = w[SLOT_WAIT];
     }
-    return broken;
 }
 
-static uint32_t broken_header(const uint32_t *table)
+static void check_header(const uint32_t *table, struct broken *found)
 {
     uint32_t per_second = table[HEADER_TICKS_PER_SECOND], set = table[HEADER_CLOCK_SET];
     uint32_t seconds = table[HEADER_SECONDS], into = table[HEADER_CLOCK_TICKS];
     const uint32_t *zeros = table + HEADER_ZEROS;
-    return broken_if(per_second < 1 || per_second > MAX_TICKS_PER_SECOND, PART_TPS) |
-           broken_if(set > 1, PART_CLOCK_SET) | broken_if(seconds > LAST_SECOND, PART_SECONDS) |
-           broken_if(into >= per_second, PART_CLOCK_TICKS) |
-           broken_if(zeros[0] != 0 || zeros[1] != 0 || zeros[2] != 0, PART_ZEROS) |
-           broken_if(set == 0 && (seconds != 0 || into != 0), PART_UNSET_CLOCK) |
-           broken_if(set == 0 && table[HEADER_FIRST_DATED] != 0, PART_UNSET_DATED);
+    breaks(found, per_second < 1 || per_second > MAX_TICKS_PER_SECOND, PART_TPS);
+    breaks(found, set > 1, PART_CLOCK_SET);
+    breaks(found, seconds > LAST_SECOND, PART_SECONDS);
+    breaks(found, into >= per_second, PART_CLOCK_TICKS);
+    breaks(found, zeros[0] != 0 || zeros[1] != 0 || zeros[2] != 0, PART_ZEROS);
+    breaks(found, set == 0 && (seconds != 0 || into != 0), PART_UNSET_CLOCK);
+    breaks(found, set == 0 && table[HEADER_FIRST_DATED] != 0, PART_UNSET_DATED);
 }
 
-uint32_t oracle_broken(const uint32_t *table, size_t words)
+static void check_table(const uint32_t *table, size_t words, struct broken *found)
 {
-    if (words < HEADER_WORDS)
-        return broken_if(true, PART_HEADER_SHORT);
+    if (words < HEADER_WORDS) {
+        breaks(found, true, PART_HEADER_SHORT);
+        return;
+    }
     uint32_t slots = table[HEADER_SLOTS];
-    uint32_t broken = broken_if(slots < 1, PART_SLOTS_BELOW) | broken_if(slots > MAX_SLOTS, PART_SLOTS_ABOVE);
-    if (words < table_words(slots) || slots > MOST_READ)
-        return broken | broken_if(true, PART_WORDS);
-    broken |= broken_header(table);
+    breaks(found, slots < 1, PART_SLOTS_BELOW);
+    breaks(found, slots > MAX_SLOTS, PART_SLOTS_ABOVE);
+    if (words < table_words(slots) || slots > MOST_READ) {
+        breaks(found, true, PART_WORDS);
+        return;
+    }
+    check_header(table, found);
     for (uint32_t i = 1; i <= slots; i++)
-        broken |= broken_slot(table + slot_at(i, SLOT_KIND));
-    return broken | broken_ticking(table) | broken_dated(table);
+        check_slot(table + slot_at(i, SLOT_KIND), found);
+    check_ticking(table, found);
+    check_dated(table, found);
+}
+
+uint32_t oracle_broken(const uint32_t *table, size_t words, uint32_t *kinds)
+{
+    struct broken found = {0, 0};
+    check_table(table, words, &found);
+    *kinds = found.kinds;
+    return found.parts;
 }
 
 /* ---- What a test must have met ---- */
@@ -622,6 +721,7 @@ bool oracle_possible(enum call_kind kind, enum reason reason)
     case TICKS_LEFT:
         return reason == TABLE_NOT_SOUND || (reason >= ID_BELOW && reason <= ID_FREE);
     case FIRE_AFTER:
+    case FIRE_EVERY:
         return reason == TABLE_NOT_SOUND || (reason >= ID_BELOW && reason <= ROUTINE_ZERO);
     case FIRE_WHEN:
         return reason == TABLE_NOT_SOUND || (reason >= ID_BELOW && reason <= ID_FREE) ||
@@ -660,4 +760,82 @@ bool oracle_pair_possible(enum call_kind kind, uint32_t first, uint32_t second)
     if (kind == RESET)
         return second == HC_INVALID_ID;
     return true;
+}
+
+static bool takes_id(enum call_kind kind)
+{
+    return kind >= CANCEL && kind <= TICKS_LEFT;
+}
+
+bool oracle_takes(enum call_kind kind, uint32_t timer_kind)
+{
+    bool by_date = timer_kind == KIND_IDLE_DATED || timer_kind == KIND_DATED;
+    return takes_id(kind) && timer_kind != KIND_FREE && !(kind == RESET && (by_date || timer_kind == KIND_NEVER_STARTED));
+}
+
+/* The starts alone are refused for other arguments than the id. */
+bool oracle_refuses(enum call_kind kind, uint32_t timer_kind)
+{
+    return kind >= FIRE_AFTER && kind <= FIRE_EVERY && timer_kind != KIND_FREE;
+}
+
+static uint32_t turn(enum turn turn, bool met)
+{
+    return met ? 1u << turn : 0;
+}
+
+/* Whether others wait for the same tick as this one, which has gone back, or longer. */
+static uint32_t turns_behind(const struct oracle *after, const struct oracle_timer *back)
+{
+    uint32_t turns = 0;
+    for (uint32_t i = 1; i <= after->slots; i++) {
+        const struct oracle_timer *t = &after->timer[i];
+        bool waits = t->waiting && t->started == BY_INTERVAL;
+        turns |= turn(BACK_BEHIND_OTHER, waits && t->due == back->due && t->interval != back->interval);
+        turns |= turn(BACK_AHEAD_OF_LATER, waits && t->due > back->due);
+    }
+    return turns;
+}
+
+uint32_t oracle_turns(const struct oracle *after, const struct outcome *outcome)
+{
+    const struct oracle_timer *back = NULL;     /* the last one that went back */
+    uint32_t turns = 0;
+    bool one_shot = false;
+    for (uint32_t k = 0; k < outcome->answer; k++) {
+        const struct oracle_timer *t = &after->timer[outcome->fired[fired_at(k, FIRED_ID)] - ID_BASE];
+        turns |= turn(DATED_AFTER_PERIODIC, t->started == BY_DATE && back);
+        turns |= turn(ONE_SHOT_AFTER_PERIODIC, t->started == BY_INTERVAL && !t->periodic && back);
+        turns |= turn(PERIODIC_AFTER_ONE_SHOT, t->periodic && one_shot);
+        turns |= turn(BACK_AFTER_EQUAL, t->periodic && back && t->interval == back->interval);
+        turns |= turn(BACK_AFTER_SHORTER, t->periodic && back && t->interval > back->interval);
+        turns |= turn(BACK_AFTER_LONGER, t->periodic && back && t->interval < back->interval);
+        one_shot = one_shot || !t->periodic;
+        back = t->periodic ? t : back;
+    }
+    return back ? turns | turns_behind(after, back) : turns;
+}
+
+#define KIND_BIT(kind) (1u << (kind))
+enum {
+    TICKING_KINDS = KIND_BIT(KIND_TICKING) | KIND_BIT(KIND_PERIODIC),
+    DATED_KINDS = KIND_BIT(KIND_DATED),
+    IDLE_KINDS = KIND_BIT(KIND_IDLE_TICKING) | KIND_BIT(KIND_IDLE_DATED) | KIND_BIT(KIND_IDLE_PERIODIC),
+    STARTED_KINDS = TICKING_KINDS | DATED_KINDS | IDLE_KINDS,
+    BY_DATE_KINDS = KIND_BIT(KIND_IDLE_DATED) | KIND_BIT(KIND_DATED)
+};
+
+/* For each part, the kinds of slots that break it alone; 0 where it is not a slot's to break. */
+static const uint32_t kinds_that_break[PARTS] = {
+    [PART_KIND] = KIND_BIT(KINDS), [PART_FREE] = KIND_BIT(KIND_FREE), [PART_NEVER_NAME] = KIND_BIT(KIND_NEVER_STARTED),
+    [PART_NEVER_REST] = KIND_BIT(KIND_NEVER_STARTED), [PART_NAME] = STARTED_KINDS, [PART_ROUTINE] = STARTED_KINDS,
+    [PART_INTERVAL] = STARTED_KINDS & ~BY_DATE_KINDS & ~TICKING_KINDS, [PART_NO_INTERVAL] = BY_DATE_KINDS,
+    [PART_IDLE_WAIT] = IDLE_KINDS, [PART_IDLE_LINKS] = IDLE_KINDS, [PART_TICKING_CHAIN] = TICKING_KINDS,
+    [PART_TICKING_PREVIOUS] = TICKING_KINDS, [PART_FIRST_WAIT] = TICKING_KINDS, [PART_LEFT] = TICKING_KINDS,
+    [PART_DATED_CHAIN] = DATED_KINDS, [PART_DATED_PREVIOUS] = DATED_KINDS, [PART_DATE_ABOVE] = DATED_KINDS,
+    [PART_DATE_LAST] = DATED_KINDS, [PART_DATES_RISE] = DATED_KINDS};
+
+bool oracle_breaks(enum part part, uint32_t timer_kind)
+{
+    return kinds_that_break[part] & KIND_BIT(timer_kind);
 }

@@ -18,7 +18,10 @@ enum header_word {
 enum slot_word {
     SLOT_KIND, SLOT_NAME, SLOT_INTERVAL, SLOT_WAIT, SLOT_ROUTINE, SLOT_DATA, SLOT_NEXT, SLOT_PREVIOUS, SLOT_WORDS
 };
-enum { KIND_FREE, KIND_NEVER_STARTED, KIND_IDLE_TICKING, KIND_IDLE_DATED, KIND_TICKING, KIND_DATED };
+enum {
+    KIND_FREE, KIND_NEVER_STARTED, KIND_IDLE_TICKING, KIND_IDLE_DATED, KIND_TICKING, KIND_DATED, KIND_PERIODIC,
+    KIND_IDLE_PERIODIC, KINDS
+};
 enum fired_word { FIRED_ID, FIRED_ROUTINE, FIRED_DATA, FIRED_WORDS };
 
 enum { MAX_TABLE = HEADER_WORDS + SLOT_WORDS * MAX_SLOTS, MAX_LIST = FIRED_WORDS * MAX_SLOTS };
@@ -51,7 +54,8 @@ static inline size_t fired_at(uint32_t k, enum fired_word word)
 /* ---- Calls and what they give ---- */
 
 enum call_kind {
-    LAY_OUT, CREATE, IDENT, CANCEL, DELETE, FIRE_AFTER, FIRE_WHEN, RESET, TICKS_LEFT, TICK, SET_CLOCK, GET_CLOCK
+    LAY_OUT, CREATE, IDENT, CANCEL, DELETE, FIRE_AFTER, FIRE_WHEN, FIRE_EVERY, RESET, TICKS_LEFT, TICK, SET_CLOCK,
+    GET_CLOCK
 };
 enum { CALLS = GET_CLOCK + 1 };     /* no call itself, so that a switch over the calls needs no other case */
 
@@ -82,6 +86,7 @@ struct outcome {
     uint32_t status;
     enum reason reason;             /* one that gives the status */
     uint32_t applying;              /* all reasons that apply, a bit each */
+    uint32_t timer_kind;            /* before the call, of the timer that its id names; KIND_FREE if there is none */
     uint32_t answer;
     struct hc_wall_time clock;      /* get clock's answer */
     uint32_t fired[MAX_LIST];       /* as many entries as the answer, for tick and set clock */
@@ -91,9 +96,10 @@ _Static_assert(REASONS <= 32, "a set of reasons fits a word");
 struct oracle_timer {
     bool exists, waiting;
     enum { NEVER, BY_INTERVAL, BY_DATE } started;
+    bool periodic;                  /* then by interval */
     uint32_t name, interval, routine, data;
     uint64_t due;                   /* the tick since lay out, or the second */
-    uint64_t start;                 /* its last start's number, counted from lay out */
+    uint64_t start;                 /* number of its last start or going back, counted from lay out */
 };
 
 struct oracle {
@@ -102,6 +108,14 @@ struct oracle {
     uint32_t seconds, clock_ticks;
     uint64_t ticks, starts;         /* so far */
     struct oracle_timer timer[MAX_SLOTS + 1];
+};
+
+/* What a tick may come to, a bit each in what oracle_turns gives. Calls alone lead to no table where, of timers due at the
+ * same tick, one with a shorter interval stands ahead of one with a longer: that one was started earlier. */
+enum turn {
+    PERIODIC_AFTER_ONE_SHOT, ONE_SHOT_AFTER_PERIODIC, DATED_AFTER_PERIODIC, BACK_AFTER_EQUAL, BACK_AFTER_LONGER,
+    BACK_BEHIND_OTHER, BACK_AHEAD_OF_LATER, TURNS_OF_CALLS,
+    BACK_AFTER_SHORTER = TURNS_OF_CALLS, TURNS
 };
 
 /* The parts of soundness, a bit each in what oracle_broken gives. */
@@ -119,6 +133,7 @@ _Static_assert(PARTS <= 32, "a set of parts fits a word");
 extern const char *const call_names[CALLS];
 extern const char *const reason_texts[REASONS];
 extern const uint32_t reason_statuses[REASONS];
+extern const char *const turn_texts[TURNS];
 extern const char *const part_texts[PARTS];
 
 /* What the call gives on this state, and the state after it. */
@@ -127,8 +142,9 @@ void oracle_call(struct oracle *state, const struct call *call, struct outcome *
 /* The state's words, table_words of its slots. */
 void oracle_encode(const struct oracle *state, uint32_t *table);
 
-/* The parts of soundness that the slice breaks; 0 if it is sound. */
-uint32_t oracle_broken(const uint32_t *table, size_t words);
+/* The parts of soundness that the slice breaks; 0 if it is sound. The kinds of the slots that break them, a bit each, go to
+ * kinds; all above the last are the one after it. */
+uint32_t oracle_broken(const uint32_t *table, size_t words, uint32_t *kinds);
 
 /* What a call other than lay out gives on a table that is not sound: a refusal with 100. Of the other reasons, those apply
  * that the arguments give alone, or one header word where the slice has it: they must come second. */
@@ -144,5 +160,15 @@ void oracle_date_of(uint32_t seconds, struct hc_wall_time *time);
 /* May this call be refused for this reason; may it be refused with the first status while the second applies too. */
 bool oracle_possible(enum call_kind kind, enum reason reason);
 bool oracle_pair_possible(enum call_kind kind, uint32_t first, uint32_t second);
+
+/* What an accepted tick came to that gave this and left this state. */
+uint32_t oracle_turns(const struct oracle *after, const struct outcome *outcome);
+
+/* May the call be accepted, or refused, with the id of a timer of this kind. */
+bool oracle_takes(enum call_kind kind, uint32_t timer_kind);
+bool oracle_refuses(enum call_kind kind, uint32_t timer_kind);
+
+/* May a slot of this kind alone break this part of soundness. */
+bool oracle_breaks(enum part part, uint32_t timer_kind);
 
 #endif

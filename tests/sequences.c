@@ -156,7 +156,7 @@ int main(int count, char **arguments)
            "locked, %" PRIu64 " with those before them), %" PRIu64 " pairs in turn, %" PRIu64 " calls on slices cut short\n",
            seed, calls, place.table, locked_tables, started_tables, table_pairs, cut_slices);
     report_met();
-    unsigned missing = report_not_met();
+    unsigned missing = statuses_not_met() + kinds_not_met() + turns_not_met(TURNS_OF_CALLS);
     place.call = NULL, place.table = 0;
     if (missing)
         fail("%u cases were not met", missing);

@@ -1,424 +1,269 @@
-// Cases of document 01 that are run: those of its list "Both sides of each edge" that are not proved, its orders of refusals, and other
-// sentences of it. One line a case: what is done, then status and answer in decimal. `stdout` has what document 01 says of each.
+// Runs the cases of document 01 and of the requests that stand in `stdin`, one a line: a label, a bar, and the words of a step in decimal, its number
+// first and then its arguments. Prints the label, then status and answer. A line without a bar says which sentences the cases below it are of, and is
+// copied. `stdout` is written by hand from the documents. A new case is a line of both files; a new call is a number and an arm.
+ghost use Prim.Native.Nat.{_≤_};
+ghost use lib.ListN.{length};
 use answers::Answer;
 use answers::Reading;
 use calendar::WallTime;
 use clock::*;
-use slots::ID_BASE;
+use libc::STDIN_FILENO;
+use libc::STDOUT_FILENO;
 use starts::*;
 use table::SLOT_COUNT;
-use table::SPARE_9;
 use table::TICKS_PER_SECOND;
 use timer::*;
 
-// The words of a table and of a fired list for three slots, and of a list that is too short for them.
+// The calls, numbered as in `model`; their arguments come in its order. A wall time is two words: 20000229 235959 is the last second of
+// 2000-02-29.
+const LAY_OUT: u32 = 1;
+
+const CREATE: u32 = 2;
+
+const IDENT: u32 = 3;
+
+const CANCEL: u32 = 4;
+
+const DELETE: u32 = 5;
+
+const FIRE_AFTER: u32 = 6;
+
+const FIRE_WHEN: u32 = 7;
+
+const RESET: u32 = 8;
+
+const TICKS_LEFT: u32 = 9;
+
+const TICK: u32 = 10;
+
+const SET_CLOCK: u32 = 11;
+
+const GET_CLOCK: u32 = 12;
+
+const FIRE_EVERY: u32 = 13;
+
+// Steps that are no calls: none; so many words of the fired list are printed; a word of the table becomes a number.
+const NONE: u32 = 0;
+
+const PRINT_LIST: u32 = 50;
+
+const CHANGE_WORD: u32 = 51;
+
+// A call that is lent a word too few for three slots, 33 of the table or 8 of the list, has 100 more.
+const SHORT_LAY_OUT: u32 = 101;
+
+const SHORT_CREATE: u32 = 102;
+
+const SHORT_TICK: u32 = 110;
+
+const SHORT_SET_CLOCK: u32 = 111;
+
+// The words of a table and of a fired list for three slots.
 const TABLE: usize = 34;
 
 const LIST: usize = 9;
 
-const SHORT_LIST: usize = 8;
-
 const MOST: u32 = 4294967295;
 
-fn write(text: &[u8]) {
-    io::write_all(libc::STDOUT_FILENO, text);
+// The words of a step; those that a line leaves out are zero.
+struct Step {
+    number: u32,
+    a: u32,
+    b: u32,
+    c: u32,
+    d: u32,
+    e: u32,
 }
 
-fn next(number: u32) {
-    write(b" ");
-    io::print_decimal(libc::STDOUT_FILENO, number as u64);
+fn print(number: u32) {
+    io::write_all(STDOUT_FILENO, b" ");
+    io::print_decimal(STDOUT_FILENO, number as u64);
 }
 
-// The number of an answer.
-fn number_in(answer: Answer) -> u32 {
-    match answer {
-        Answer::Done(number) => number,
-        Answer::Refused(_) => 0,
-    }
-}
-
-// Prints the line of a case.
-fn line(label: &[u8], answer: Answer) {
-    write(label);
-    write(b":");
+// Prints status and answer.
+fn show(answer: Answer) {
     match answer {
         Answer::Done(number) => {
-            next(status::SUCCESSFUL);
-            next(number);
+            print(status::SUCCESSFUL);
+            print(number);
         }
         Answer::Refused(refusal) => {
-            next(status::number_of(refusal));
-            next(0);
+            print(status::number_of(refusal));
+            print(0);
         }
     }
-    write(b"\n");
 }
 
-// The seven numbers of a wall time.
-fn numbers(w: WallTime) {
-    next(w.year);
-    next(w.month);
-    next(w.day);
-    next(w.hour);
-    next(w.minute);
-    next(w.second);
-    next(w.ticks);
+// Prints status and wall time.
+fn show_time(status: u32, w: WallTime) {
+    print(status);
+    print(w.year);
+    print(w.month);
+    print(w.day);
+    print(w.hour);
+    print(w.minute);
+    print(w.second);
+    print(w.ticks);
 }
 
-// Prints the line of a get clock: seven zeros where it is refused.
-fn clock_line(label: &[u8], table: &[u32]) {
-    write(label);
-    write(b":");
-    match get_clock(table) {
-        Reading::Time(w) => {
-            next(status::SUCCESSFUL);
-            numbers(w);
-        }
-        Reading::Unread(refusal) => {
-            next(status::number_of(refusal));
-            numbers(wall_time(0, 0, 0, 0, 0, 0, 0));
-        }
-    }
-    write(b"\n");
-}
-
-fn wall_time(
-    year: u32,
-    month: u32,
-    day: u32,
-    hour: u32,
-    minute: u32,
-    second: u32,
-    ticks: u32,
-) -> WallTime {
+// The wall time whose date and time of day have these decimal digits.
+fn wall_time(date: u32, time: u32, ticks: u32) -> WallTime {
     WallTime {
-        year: year,
-        month: month,
-        day: day,
-        hour: hour,
-        minute: minute,
-        second: second,
+        year: date / 10000,
+        month: date / 100 % 100,
+        day: date % 100,
+        hour: time / 10000,
+        minute: time / 100 % 100,
+        second: time % 100,
         ticks: ticks,
     }
 }
 
-// A second of the first minute of 2000. The ticks are not zero, and do not count.
-fn at(second: u32) -> WallTime {
-    wall_time(2000, 1, 1, 0, 0, second, MOST)
+// Prints what get clock answers: seven zeros where it is refused.
+fn show_reading(reading: Reading) {
+    match reading {
+        Reading::Time(w) => show_time(status::SUCCESSFUL, w),
+        Reading::Unread(refusal) => show_time(status::number_of(refusal), wall_time(0, 0, 0)),
+    }
 }
 
-// A second of a day's last minute, likewise.
-fn last_minute(year: u32, month: u32, day: u32, second: u32) -> WallTime {
-    wall_time(year, month, day, 23, 59, second, MOST)
+// Prints so many words of a fired list.
+fn print_list(list: &[u32; LIST], count: u32) {
+    let mut i = 0;
+    while i < LIST {
+        if (i as u32) < count {
+            print(list[i]);
+        }
+        i += 1;
+    }
 }
 
-// A new table with a timer, and its id.
-fn one_timer(table: &mut [u32], slots: u32, rate: u32) -> u32 {
-    lay_out(table, slots, rate);
-    number_in(create(table, 1))
-}
-
-// A tick and a set clock, with a list that is long enough.
-fn tick_once(table: &mut [u32]) -> Answer {
-    let mut fired = [0u32; LIST];
-    tick(table, &mut fired)
-}
-
-fn clock_to(table: &mut [u32], time: WallTime) -> Answer {
-    let mut fired = [0u32; LIST];
-    set_clock(table, time, &mut fired)
-}
-
-// Lay out: 10, 8.
-fn lay_outs() {
-    let mut words = [0u32; TABLE];
-    let table: &mut [u32] = &mut words;
-    line(b"lay out N 0", lay_out(table, 0, 10));
-    line(b"lay out N 256", lay_out(table, 256, 10));
-    line(b"lay out T 0", lay_out(table, 3, 0));
-    line(b"lay out T 1001", lay_out(table, 3, 1001));
-    line(b"lay out N 255 in 34 words", lay_out(table, 255, 10));
-    line(b"lay out N 4 in 34 words", lay_out(table, 4, 10));
-    line(b"lay out N 4 in 34 words, T 0", lay_out(table, 4, 0));
-    line(b"lay out N 3 in 34 words", lay_out(table, 3, 10));
-    line(b"lay out N 1, T 1000", lay_out(table, 1, 1000));
-}
-
-// One slot: create, ident, and create again after a delete.
-fn one_slot() {
-    let mut words = [0u32; TABLE];
-    let table: &mut [u32] = &mut words;
-    lay_out(table, 1, 10);
-    line(b"ident, none created", ident(table, 7));
-    line(b"create 0", create(table, 0));
-    line(b"create 7", create(table, 7));
-    line(b"create 8, no slot free", create(table, 8));
-    line(b"create 0, no slot free", create(table, 0));
-    line(b"ident 7", ident(table, 7));
-    line(b"ident 8", ident(table, 8));
-    line(b"ident 0", ident(table, 0));
-    line(b"delete", delete(table, ID_BASE + 1));
-    line(b"delete again", delete(table, ID_BASE + 1));
-    line(b"create after delete", create(table, 8));
-}
-
-// Two timers of one name, and a stale id.
-fn names() {
-    let mut words = [0u32; TABLE];
-    let table: &mut [u32] = &mut words;
-    let old = one_timer(table, 2, 10);
-    line(b"create an equal name", create(table, 1));
-    line(b"ident of two", ident(table, 1));
-    line(b"delete the first", delete(table, old));
-    line(b"ident of one", ident(table, 1));
-    line(b"stale id", ticks_left(table, old));
-    line(b"create in its slot", create(table, 2));
-    line(b"stale id, new timer", fire_after(table, old, 6, 1, 1));
-    line(b"its ticks left", ticks_left(table, old));
-}
-
-// Ids that name no timer, and one that does.
-fn ids() {
-    let mut words = [0u32; TABLE];
-    let table: &mut [u32] = &mut words;
-    let id = one_timer(table, 2, 10);
-    line(b"cancel id 1", cancel(table, 1));
-    line(b"cancel index 0", cancel(table, ID_BASE));
-    line(b"cancel a free slot", cancel(table, ID_BASE + 2));
-    line(b"cancel index N + 1", cancel(table, ID_BASE + 3));
-    line(b"cancel, never started", cancel(table, id));
-    line(b"ticks left, never started", ticks_left(table, id));
-}
-
-// The longest wait.
-fn most_ticks() {
-    let mut words = [0u32; TABLE];
-    let table: &mut [u32] = &mut words;
-    let id = one_timer(table, 3, 10);
-    line(b"fire after 4294967295", fire_after(table, id, MOST, 1, 0));
-    line(b"its ticks left", ticks_left(table, id));
-    line(b"tick", tick_once(table));
-    line(b"its ticks left", ticks_left(table, id));
-}
-
-// Cancel twice; those behind in the chain come no earlier.
-fn cancels() {
-    let mut words = [0u32; TABLE];
-    let table: &mut [u32] = &mut words;
-    let first = one_timer(table, 2, 10);
-    let second = number_in(create(table, 2));
-    line(b"fire after 3", fire_after(table, first, 3, 1, 0));
-    line(b"another after 5", fire_after(table, second, 5, 1, 0));
-    line(b"cancel the first", cancel(table, first));
-    line(b"cancel it again", cancel(table, first));
-    line(b"its ticks left", ticks_left(table, first));
-    line(b"ticks left, the other", ticks_left(table, second));
-}
-
-// A start that is refused leaves a waiting timer waiting.
-fn refused_starts() {
-    let mut words = [0u32; TABLE];
-    let table: &mut [u32] = &mut words;
-    let id = one_timer(table, 3, 10);
-    line(b"fire after 9", fire_after(table, id, 9, 1, 0));
-    line(b"tick", tick_once(table));
-    line(b"fire when, no clock", fire_when(table, id, at(1), 1, 0));
-    line(b"its ticks left", ticks_left(table, id));
-    line(b"set clock", clock_to(table, at(30)));
-    line(b"fire when in the past", fire_when(table, id, at(29), 1, 0));
-    line(b"fire after 0", fire_after(table, id, 0, 1, 0));
-    line(b"its ticks left", ticks_left(table, id));
-}
-
-// Fire after: 10, 9, 4.
-fn fire_after_order() {
-    let mut words = [0u32; TABLE];
-    let table: &mut [u32] = &mut words;
-    let id = one_timer(table, 3, 10);
-    line(
-        b"fire after 0, routine 0, no id",
-        fire_after(table, 0, 0, 0, 0),
-    );
-    line(
-        b"fire after 1, routine 0, no id",
-        fire_after(table, 0, 1, 0, 0),
-    );
-    line(b"fire after 1, no id", fire_after(table, 0, 1, 1, 0));
-    line(b"fire after 1", fire_after(table, id, 1, 1, 0));
-}
-
-// Fire when: 11, 9, 20, 4.
-fn fire_when_order() {
-    let mut words = [0u32; TABLE];
-    let table: &mut [u32] = &mut words;
-    let id = one_timer(table, 3, 10);
-    line(
-        b"fire when, clock not set, routine 0, no date, no id",
-        fire_when(table, 0, at(60), 0, 0),
-    );
-    line(b"set clock", clock_to(table, at(30)));
-    line(
-        b"fire when, routine 0, no date, no id",
-        fire_when(table, 0, at(60), 0, 0),
-    );
-    line(
-        b"fire when, no date, no id",
-        fire_when(table, 0, at(60), 1, 0),
-    );
-    line(
-        b"fire when, present second, no id",
-        fire_when(table, 0, at(30), 1, 0),
-    );
-    line(b"fire when, no id", fire_when(table, 0, at(31), 1, 0));
-    line(
-        b"fire when, one second later",
-        fire_when(table, id, at(31), 1, 0),
-    );
-    line(b"its ticks left", ticks_left(table, id));
-}
-
-// Reset: 4, 11.
-fn resets() {
-    let mut words = [0u32; TABLE];
-    let table: &mut [u32] = &mut words;
-    let id = one_timer(table, 3, 10);
-    line(b"reset a free slot", reset(table, ID_BASE + 2));
-    line(b"reset, never started", reset(table, id));
-    clock_to(table, at(0));
-    fire_when(table, id, at(1), 1, 0);
-    line(b"reset, waiting for a date", reset(table, id));
-    cancel(table, id);
-    line(b"reset, last started by date", reset(table, id));
-    fire_after(table, id, 2, 1, 0);
-    line(b"tick", tick_once(table));
-    line(b"reset, waiting for ticks", reset(table, id));
-    line(b"its ticks left", ticks_left(table, id));
-}
-
-// A table needs all its words.
-fn too_few_words() {
-    let mut whole = [0u32; TABLE];
-    whole[SLOT_COUNT] = 3;
-    whole[TICKS_PER_SECOND] = 10;
-    line(b"34 words for N 3, create 1", create(&mut whole, 1));
+// Makes a call that is lent a word too few for three slots. Any other number is no step's.
+fn short_call(number: u32, a: u32, b: u32, table: &mut [u32; TABLE]) -> Answer {
+    let mut list = [0u32; LIST - 1];
     let mut cut = [0u32; TABLE - 1];
     cut[SLOT_COUNT] = 3;
     cut[TICKS_PER_SECOND] = 10;
-    line(b"33 words for N 3, create 1", create(&mut cut, 1));
+    match number {
+        SHORT_LAY_OUT => lay_out(&mut cut, a, b),
+        SHORT_CREATE => create(&mut cut, a),
+        SHORT_TICK => tick(table, &mut list),
+        SHORT_SET_CLOCK => set_clock(table, wall_time(a, b, MOST), &mut list),
+        _ => Answer::Done(MOST),
+    }
 }
 
-// 100 comes before any other status; lay out has no such rule. The table has a word set that must be zero.
-fn not_sound() {
-    let mut words = [0u32; TABLE];
-    let table: &mut [u32] = &mut words;
-    let mut short_list = [0u32; SHORT_LIST];
-    let short: &mut [u32] = &mut short_list;
-    lay_out(table, 3, 10);
-    table[SPARE_9] = 1;
-    line(b"not sound, create 0", create(table, 0));
-    line(b"not sound, ident 0", ident(table, 0));
-    line(b"not sound, cancel, no id", cancel(table, 0));
-    line(b"not sound, delete, no id", delete(table, 0));
-    line(
-        b"not sound, fire after 0, routine 0, no id",
-        fire_after(table, 0, 0, 0, 0),
-    );
-    line(
-        b"not sound, fire when, routine 0, no date, no id",
-        fire_when(table, 0, at(60), 0, 0),
-    );
-    line(b"not sound, reset, no id", reset(table, 0));
-    line(b"not sound, ticks left, no id", ticks_left(table, 0));
-    line(b"not sound, tick, list short", tick(table, short));
-    line(
-        b"not sound, set clock, list short, no date",
-        set_clock(table, at(60), short),
-    );
-    clock_line(b"not sound, get clock", table);
-    line(b"not sound, lay out", lay_out(table, 3, 10));
+// Makes a call. The ticks of a wall time are not zero, and do not count.
+fn call(
+    number: u32,
+    a: u32,
+    b: u32,
+    c: u32,
+    d: u32,
+    e: u32,
+    table: &mut [u32; TABLE],
+    list: &mut [u32; LIST],
+) -> Answer {
+    match number {
+        LAY_OUT => lay_out(table, a, b),
+        CREATE => create(table, a),
+        IDENT => ident(table, a),
+        CANCEL => cancel(table, a),
+        DELETE => delete(table, a),
+        FIRE_AFTER => fire_after(table, a, b, c, d),
+        FIRE_WHEN => fire_when(table, a, wall_time(b, c, MOST), d, e),
+        FIRE_EVERY => fire_every(table, a, b, c, d),
+        RESET => reset(table, a),
+        TICKS_LEFT => ticks_left(table, a),
+        TICK => tick(table, list),
+        SET_CLOCK => set_clock(table, wall_time(a, b, MOST), list),
+        CHANGE_WORD => {
+            table[a as usize % TABLE] = b;
+            Answer::Done(b)
+        }
+        _ => short_call(number, a, b, table),
+    }
 }
 
-// 101, then 20. A refused tick does not count.
-fn short_lists() {
-    let mut words = [0u32; TABLE];
-    let table: &mut [u32] = &mut words;
-    let mut short_list = [0u32; SHORT_LIST];
-    let short: &mut [u32] = &mut short_list;
-    let id = one_timer(table, 3, 10);
-    fire_after(table, id, 1, 1, 0);
-    line(b"tick, 8 words for N 3", tick(table, short));
-    line(b"ticks left", ticks_left(table, id));
-    line(
-        b"set clock, list short, no date",
-        set_clock(table, at(60), short),
-    );
-    line(b"set clock, no date", clock_to(table, at(60)));
-    line(b"set clock, list short", set_clock(table, at(0), short));
-    clock_line(b"get clock", table);
-    line(b"tick, 9 words for N 3", tick_once(table));
+// Takes a step and prints what comes of it.
+fn play(step: Step, table: &mut [u32; TABLE], list: &mut [u32; LIST]) {
+    let number = step.number;
+    match number {
+        NONE => {}
+        GET_CLOCK => show_reading(get_clock(table)),
+        PRINT_LIST => print_list(list, step.a),
+        _ => show(call(number, step.a, step.b, step.c, step.d, step.e, table, list)),
+    }
 }
 
-// The clock goes on, over a leap day and up to its end, where it stands still.
-fn clock_steps() {
-    let mut words = [0u32; TABLE];
-    let table: &mut [u32] = &mut words;
-    let eve = last_minute(2000, 2, 28, 59);
-    let last = last_minute(2099, 12, 31, 59);
-    let past = last_minute(2100, 1, 1, 0);
-    lay_out(table, 3, 2);
-    clock_line(b"get clock, not set", table);
-    line(b"tick, clock not set", tick_once(table));
-    clock_line(b"get clock, not set", table);
-    line(b"set clock", clock_to(table, eve));
-    clock_line(b"get clock", table);
-    line(b"tick", tick_once(table));
-    clock_line(b"get clock", table);
-    line(b"tick", tick_once(table));
-    clock_line(b"get clock", table);
-    line(b"set clock, last second", clock_to(table, last));
-    line(b"tick", tick_once(table));
-    clock_line(b"get clock", table);
-    line(b"tick", tick_once(table));
-    clock_line(b"get clock", table);
-    line(b"set clock to 2100", clock_to(table, past));
-    clock_line(b"get clock", table);
+// Where a byte stands, from a place on; the end where it does not.
+fn find(text: &[u8], from: usize, byte: u8) -> usize
+    requires { ⌜ from ≤ length (now text) ⌝ }
+    ensures { λ r. ⌜ (from ≤ r) × (r ≤ length (now (text .entry))) ⌝ }
+{
+    let mut i = from;
+    while i < text.len() {
+        if text[i] == byte {
+            return i;
+        }
+        i += 1;
+    }
+    i
 }
 
-// A clock set back moves no date, one set forward fires what it passes; interval timers do not change.
-fn clock_sets() {
-    let mut words = [0u32; TABLE];
-    let table: &mut [u32] = &mut words;
-    let dated = one_timer(table, 3, 1);
-    let ticking = number_in(create(table, 2));
-    let before = last_minute(1999, 12, 31, 59);
-    clock_to(table, at(10));
-    line(b"fire at second 20", fire_when(table, dated, at(20), 1, 0));
-    line(b"another after 5", fire_after(table, ticking, 5, 1, 0));
-    line(b"set clock back", clock_to(table, before));
-    line(b"set clock, second 19", clock_to(table, at(19)));
-    line(b"set clock, second 20", clock_to(table, at(20)));
-    line(b"set clock, second 30", clock_to(table, at(30)));
-    line(b"ticks left, the other", ticks_left(table, ticking));
-    line(b"fire at second 31", fire_when(table, dated, at(31), 1, 0));
-    line(b"the other after 1", fire_after(table, ticking, 1, 1, 0));
-    line(b"tick", tick_once(table));
-    line(b"tick", tick_once(table));
+// A number with a decimal digit more, in ASCII. What is past 32 bits is lost.
+fn with_digit(number: u32, digit: u8) -> u32 {
+    ((number as u64 * 10 + digit as u64 % 16) % 4294967296) as u32
+}
+
+// The number that stands so many spaces behind the bar; 0 where none does.
+fn word(line: &[u8], bar: usize, spaces: u32) -> u32 {
+    let mut value = 0;
+    let mut left = spaces;
+    let mut i = bar;
+    while i < line.len() {
+        if line[i] == b' ' {
+            if left == 0 {
+                return value;
+            }
+            left -= 1;
+        } else if left == 0 {
+            value = with_digit(value, line[i]);
+        }
+        i += 1;
+    }
+    value
+}
+
+// Copies a line up to its bar, and reads the step behind it.
+fn step_of(line: &[u8]) -> Step {
+    let bar = find(line, 0, b'|');
+    io::write_all(STDOUT_FILENO, &line[0..bar]);
+    Step {
+        number: word(line, bar, 1),
+        a: word(line, bar, 2),
+        b: word(line, bar, 3),
+        c: word(line, bar, 4),
+        d: word(line, bar, 5),
+        e: word(line, bar, 6),
+    }
+}
+
+// Runs the lines of a text, each with the newline before it.
+fn run(text: &[u8]) {
+    let mut table = [0u32; TABLE];
+    let mut list = [0u32; LIST];
+    let mut at = 0;
+    while at < text.len() {
+        let end = find(text, at + 1, b'\n');
+        let step = step_of(&text[at..end]);
+        play(step, &mut table, &mut list);
+        at = end;
+    }
 }
 
 fn main() {
-    too_few_words();
-    not_sound();
-    lay_outs();
-    one_slot();
-    names();
-    ids();
-    most_ticks();
-    cancels();
-    refused_starts();
-    fire_after_order();
-    fire_when_order();
-    resets();
-    short_lists();
-    clock_steps();
-    clock_sets();
+    let mut text = io::large_buffer();
+    let n = io::read_full(STDIN_FILENO, &mut text);
+    run(&text[..n]);
 }

@@ -10,7 +10,7 @@ use lib.Seq.{sets}
 use lib.Dec.{leb}
 use Rattle.model.specs.declared.Chain.{Chain}
 use Rattle.model.specs.declared.Chain.the-variants.{ByTicks, ByDate}
-use Rattle.model.specs.State.{Link, State, Fired, chainOf, withClock, listed}
+use Rattle.model.specs.State.{Link, Clock, State, Fired, chainOf, withClock, slotAt, listed}
 use Rattle.model.specs.Directives.{due, fire, nearer, clockAt, clockStep, Effect, firing}
 use Rattle.model.specs.Words.{read, writtenOver, slotCount, seconds, ticksInto}
 use Rattle.model.specs.Sound.{sound}
@@ -19,13 +19,15 @@ use Rattle.model.proofs.ListLaws.{length-keep}
 use Rattle.model.proofs.WellFormed.{Chained, Holds}
 use Rattle.model.proofs.Chains.{fits, fit-both}
 use Rattle.model.proofs.ReadBack.{slots-length}
-use Rattle.model.proofs.Steps.{chained-nearer, chained-with-clock}
+use Rattle.model.proofs.KindLaws.{again-not-dated}
+use Rattle.model.proofs.Slots.{memo}
+use Rattle.model.proofs.Steps.{memo-fire, fire-clock, fire-elsewhere, chained-nearer, chained-with-clock}
 use Rattle.model.proofs.SoundHolds.{sound-holds, sound-well-formed}
 use Rattle.links.proofs.NextState.{Next, next-start, next-read, next-holds, next-then}
 use Rattle.firing.specs.Lists.{Room, Fires}
 use Rattle.model.proofs.ListWords.{entries-append, length-entries}
-use Rattle.firing.proofs.Entries.{sets-append, sets-written, listed-idle}
-use Rattle.firing.proofs.Due.{next-fires, fires-list-length}
+use Rattle.firing.proofs.Entries.{sets-append, sets-written, same-entries}
+use Rattle.firing.proofs.BothRounds.{next-fires, fires-list-length}
 
 -- ---- the whole call
 
@@ -91,9 +93,13 @@ module _ (t list : List ℕ) (ok : sound t ≡ true) (long : 3 * slotCount t ≤
       pub first-holds : Holds u₂ (read u₂)
       first-holds = next-holds after-first
 
+      -- firing leaves the clock
+      first-clock : read u₂ .clock ≡ read t .clock
+      first-clock = ap (λ (z : State). z .clock) (next-read after-first) ∙ fire-clock ByTicks limit (nearer (read t))
+
       pub first-into : ticksInto u₂ < 1000
       first-into =
-          let w = sound-well-formed t ok in omega (arith, ap (λ (z : State). z .clock .ticksInto) (next-read after-first), w .into, w .per-high)
+          let w = sound-well-formed t ok in omega (arith, ap (λ (c : Clock). c .ticksInto) first-clock, w .into, w .per-high)
 
       first-count : n ≡ length (due ByTicks limit (nearer (read t)))
       first-count = omega (arith, f₁ .count, ap (λ (z : State). length (due ByTicks limit z)) (next-read after-nearer))
@@ -106,17 +112,31 @@ module _ (t list : List ℕ) (ok : sound t ≡ true) (long : 3 * slotCount t ≤
           f₁ .entries ∙ ap (λ (z : State). sets list (3 * 0) (entryWords (map (listed (z .slots)) (due ByTicks limit z)))) (next-read after-nearer)
 
       module _ {u₃ : List ℕ} (e₃ : u₃ ≡ writtenOver (withClock (read u₂) (clockStep (read u₂ .clock))) u₂) where
+        -- the state in which dated timers fire
+        abbrev later : State
+        later = withClock (fire ByTicks limit (nearer (read t))) (clockStep (read t .clock))
+
         after-clock : Next t (withClock (fire ByTicks limit (nearer (read t))) (clockStep (read t .clock))) u₃
         after-clock =
-            next-then after-first (λ z. withClock z (clockStep (z .clock)))
-            (chained-with-clock (fire ByTicks limit (nearer (read t))) (clockStep (read t .clock)) (after-first .holds .chained)) refl e₃
+            next-then after-first (λ z. withClock z (clockStep (read t .clock)))
+            (chained-with-clock (fire ByTicks limit (nearer (read t))) (clockStep (read t .clock)) (after-first .holds .chained)) refl
+            (e₃ ∙ ap (λ (c : Clock). writtenOver (withClock (read u₂) (clockStep c)) u₂) first-clock)
+
+        -- no dated timer came or went
+        later-dated : later .dated ≡ read t .dated
+        later-dated =
+            fire-elsewhere ByTicks limit (nearer (read t)) (chained-nearer (read t) chained) ByDate (λ n _. again-not-dated n) refl
+
+        later-memo : (j : ℕ) → memo (slotAt (later .slots) j) ≡ memo (slotAt (read t .slots) j)
+        later-memo = memo-fire ByTicks limit (nearer (read t))
 
         pub clock-long : 10 ≤ length u₃
         clock-long = omega (arith, next-holds after-clock .long)
 
         pub clock-room : (second : ℕ) → Room ByDate u₃ list₂ second n
         clock-room second =
-            room-for after-clock ByDate second n list₂ (fires-list-length (nearer-room limit) f₁) (omega (arith, first-few, few-both))
+            room-for after-clock ByDate second n list₂ (fires-list-length (nearer-room limit) f₁)
+            (omega (arith, first-few, few-both, ap length later-dated))
 
         pub second-is : seconds u₃ ≡ clockStep (read t .clock) .second
         second-is = ap (λ (z : State). z .clock .second) (next-read after-clock)
@@ -126,7 +146,7 @@ module _ (t list : List ℕ) (ok : sound t ≡ true) (long : 3 * slotCount t ≤
         ticked-is {second} {m} {u₄} {list₄} f₃ =
             let s = read t in
             let first = due ByTicks limit (nearer s) in
-            let then = due ByDate second s in
+            let then = due ByDate second later in
             let g = listed (s .slots) in
             let both = length-append first then in
             let number : m ≡ length (first ++ then) =
@@ -138,11 +158,11 @@ module _ (t list : List ℕ) (ok : sound t ≡ true) (long : 3 * slotCount t ≤
               answer = λ j. number j ∷ [];
               entries = f₃ .entries
                   ∙ ap (λ (z : State). sets list₂ (3 * n) (entryWords (map (listed (z .slots)) (due ByDate second z)))) (next-read after-clock)
-                  ∙ ap₂ (λ (l : List ℕ) (es : List Fired). sets l (3 * n) (entryWords es)) first-entries (listed-idle first (s .slots) then)
+                  ∙ ap₂ (λ (l : List ℕ) (es : List Fired). sets l (3 * n) (entryWords es)) first-entries (same-entries (s .slots) (later .slots) later-memo then)
                   ∙ ap (λ (x : ℕ). sets (sets list 0 (entryWords (map g first))) x (entryWords (map g then))) place
                   ∙ sets-append list 0 (entryWords (map g first)) (entryWords (map g then))
                   ∙ ap (sets list 0) (sym (ap entryWords (map-append g first then) ∙ entries-append (map g first) (map g then)))
-                  ∙ at-once (first ++ then) (omega (arith, first-few, first-count, length-keep (λ w. leb (w .wait) second) (s .dated), few-both));
+                  ∙ at-once (first ++ then) (omega (arith, first-few, first-count, length-keep (λ w. leb (w .wait) second) (later .dated), ap length later-dated, few-both));
             }
 
   -- ---- a set clock, whatever it fires then

@@ -42,7 +42,7 @@ fn wall_time(numbers: &[u32; 7]) -> WallTime
     }
 }
 
-// The twelve calls. Each is the call of that name of `timer`, `starts` or `clock`, with the same arguments.
+// The calls. Each is the call of that name of `timer`, `starts` or `clock`, with the same arguments.
 #[no_mangle]
 pub extern "C" fn hc_lay_out(table: &mut [u32], slots: u32, rate: u32) -> u32
     ensures { λ r. ⌜ outcomeOf r (0 ∷ []) (now (table .exit)) [] ≡ outcome (now (table .entry)) (call.layOut slots rate) ⌝ }
@@ -107,6 +107,19 @@ pub extern "C" fn hc_fire_when(
 {
     let date = wall_time(when);
     status_of(starts::fire_when(table, id, date, routine, user_data))
+}
+
+#[no_mangle]
+pub extern "C" fn hc_fire_every(
+    table: &mut [u32],
+    id: u32,
+    ticks: u32,
+    routine: u32,
+    user_data: u32,
+) -> u32
+    ensures { λ r. ⌜ outcomeOf r (0 ∷ []) (now (table .exit)) [] ≡ outcome (now (table .entry)) (call.fireEvery id ticks routine user_data) ⌝ }
+{
+    status_of(starts::fire_every(table, id, ticks, routine, user_data))
 }
 
 #[no_mangle]

@@ -18,7 +18,6 @@ use Rattle.model.specs.Words.{first, difference, writtenOver, word, slotFrom, r
 use Rattle.model.proofs.WellFormed.{timesIn, Holds}
 use Rattle.model.proofs.Chains.{without-none}
 use Rattle.model.proofs.KindLaws.{none-in, stopped-not-in, stays}
-use Rattle.table.proofs.KindTests.{not-in}
 use Rattle.model.proofs.StateWords.{holds-parts, Linked, holds-linked}
 use Rattle.model.proofs.ReadBack.{slots-length, slot-read}
 use Rattle.model.proofs.Steps.{chained-stopped}
@@ -135,10 +134,6 @@ module _ (k : Chain) (t : List ℕ) (s : State) (h : Holds t s) (xs : List Link)
       (chained-stopped s (h .chained) i (idled x) (own .0) (own .1) (λ m. stopped-not-in m (x .kind)))
 
 -- ---- a table
-
-pub waits-none : (kind : ℕ) → kind ≢ 4 → kind ≢ 5 → (k : Chain) → waitsIn k kind ≡ false
-waits-none kind a b ByTicks = not-in ByTicks kind a
-waits-none kind a b ByDate = not-in ByDate kind b
 
 module _ (t : List ℕ) (i : ℕ) (h : InTable t i) where
   pub in-slots : i ≤ length (read t .slots)

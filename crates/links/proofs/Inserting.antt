@@ -1,11 +1,11 @@
 -- A timer that does not wait starts to: its slot inserted between xs and ys, the links of the chain up to its wait and beyond it, is one edit of
--- the table, which then holds the started state. Assumes nothing.
+-- the table, which then holds the started state. A periodic one that waits again is started as it was. Assumes nothing.
 use mathlib.Core.Path.{_≡_, refl, sym, ap, ap₂, _∙_, subst}
 use mathlib.Core.Logic.{_≢_}
 use Prim.Native.Nat.{ℕ, _≤_, _<_, zero-le}
 use native.Mathlib.Omega.{arith}
 use mathlib.Core.List.{List, [], _∷_, _++_}
-use lib.ListN.{length}
+use lib.ListN.{length, getD, set}
 use lib.Dec.{leb, eqb}
 use borrow.Author.Tests.{eqb-true, eqb-false, leb-true, leb-false}
 use Rattle.model.specs.declared.Chain.{Chain}
@@ -14,19 +14,19 @@ use Rattle.model.specs.Lists.{place}
 use Rattle.model.specs.declared.Mode.{Mode}
 use Rattle.model.specs.Kinds.{chainFor, waitingKind}
 use Rattle.model.specs.State.{Slot, Link, State, chainOf, withChain, slotAt, putAt}
-use Rattle.model.specs.Directives.{stopped, inserted, intervalIn, waitingAs, started}
+use Rattle.model.specs.Directives.{stopped, became, inserted, intervalIn, waitingAs, started}
 use Rattle.model.specs.Words.{first, difference, writtenOver, read, nameOf, waitOf}
 use Rattle.model.proofs.ListLaws.{cases, count-append}
-use Rattle.model.proofs.WellFormed.{timesIn, Holds}
+use Rattle.model.proofs.WellFormed.{timesIn, Chained, Holds}
 use Rattle.model.proofs.Chains.{without-none, once, once-apart, met-in-range}
 use Rattle.model.proofs.StateWords.{holds-parts, Linked}
 use Rattle.model.proofs.Steps.{chained-started}
-use Rattle.chains.specs.EditedWords.{relinked, waitBehind, insertedWords, Insertable}
+use Rattle.chains.specs.EditedWords.{fieldWord, relinked, waitBehind, insertedWords, Insertable}
 use Rattle.links.specs.Places.{upTo, beyond, lastSlot, lastWait, At, IdleInTable}
 use Rattle.links.specs.TimerWords.{timerPut}
 use Rattle.links.proofs.LinkInMiddle.{times-at}
 use Rattle.links.proofs.TimerWords.{timer-put-edit}
-use Rattle.chains.proofs.EditedWords.{wait-behind-ticks, wait-behind-date, relinked-edit}
+use Rattle.chains.proofs.EditedWords.{wait-behind-ticks, wait-behind-date, Edit, edit-set, slotList, slotOf, relinked-edit}
 use Rattle.links.proofs.Relinked.{times-but, Around, own-not-last, own-not-first, last-high, first-high, behind-within, Led, led-tail, holds-led, led-front, led-back, edited}
 use Rattle.links.proofs.Extracting.{in-slots, in-none}
 
@@ -58,7 +58,7 @@ wait-behind-is ByTicks t n w a b c h e f p q = omega (arith, wait-behind-ticks t
 wait-behind-is ByDate t n w a b c h e f p q = wait-behind-date t w n h ∙ e
 
 -- a state whose slot i is in no chain
-started-as : (k : Chain) (s : State) (i n : ℕ) (x : Slot) (c : List Link) → ((m : Chain) → timesIn (chainOf m s) i ≡ 0)
+pub started-as : (k : Chain) (s : State) (i n : ℕ) (x : Slot) (c : List Link) → ((m : Chain) → timesIn (chainOf m s) i ≡ 0)
     → place (λ w. w .wait) (record { slot = i; wait = n }) (chainOf k s) ≡ c → withChain k s (putAt (s .slots) i x) c ≡ inserted k (stopped s i x) i n
 started-as ByTicks s i n x c none e = λ d. record {
   slots = putAt (s .slots) i x;
@@ -131,37 +131,72 @@ module _ (k : Chain) (t : List ℕ) (s : State) (h : Holds t s) (xs : List Link)
             let less = past y zs q in
             omega (arith, ap (λ (m : Chain). difference m (lastWait 0 xs) (y .wait)) c, ap (λ (m : Chain). difference m (lastWait 0 xs) (e .wait)) c)
 
+    abbrev linkedWords : List ℕ
+    linkedWords = set (set (set (slotList t (e .slot)) 3 w) 6 (first ys)) 7 (lastSlot 0 xs)
+
+    -- the words after the slot was inserted
+    inserted-edit : Edit k t (insertedWords k t (lastSlot 0 xs) (e .slot) w) (lastSlot 0 xs) (e .slot) (first ys) (e .slot) (waitBehind k t (first ys) w)
+        (e .slot) linkedWords
+    inserted-edit =
+        let i = e .slot in
+        let p = lastSlot 0 xs in
+        let n = first ys in
+        subst (λ (j : ℕ). Edit k t (relinked k t p i j i (waitBehind k t j w) i w j p) p i n i (waitBehind k t n w) i linkedWords) (sym (rest .link))
+        (relinked-edit k t p i n i (waitBehind k t n w) i low (own-not-last around) (own-not-first around)
+        (omega (arith, last-high around, h .long)) (omega (arith, first-high around, h .long)) (omega (arith, h .long)) w n p)
+
+    -- its other words are those of x
+    join-mid : (x : Slot) (u ws : List ℕ)
+        → Edit k t u (lastSlot 0 xs) (e .slot) (first ys) (e .slot) (waitBehind k t (first ys) w) (e .slot) ws
+        → getD ws 3 0 ≡ w → getD ws 6 0 ≡ first ys → getD ws 7 0 ≡ lastSlot 0 xs → slotOf ws ≡ x
+        → place (λ z. z .wait) e (chainOf k s) ≡ xs ++ e ∷ ys → Chained (inserted k (stopped s (e .slot) x) (e .slot) (e .wait))
+        → u ≡ writtenOver (inserted k (stopped s (e .slot) x) (e .slot) (e .wait)) t
+    join-mid x u ws edit at-wait at-next at-previous new goes ok =
+        let i = e .slot in
+        edited h around edit (xs ++ e ∷ ys)
+        (led-front h around edit ys (e ∷ ys) whole
+        (record {
+          link = edit .link;
+          linked = (
+            record {
+              next = edit .own 6 (omega arith) ∙ at-next;
+              previous = edit .own 7 (omega arith) ∙ at-previous;
+              wait = edit .own 3 (omega arith) ∙ at-wait ∙ w-is;
+            },
+            led-back h around edit (lastSlot 0 xs) (lastWait 0 xs) (e .wait) follower-wait (rest .linked),
+          );
+        }))
+        (λ j. times-but j xs e ys)
+        (λ z. absurd (omega (arith, z, times-at xs e ys)))
+        (inserted k (stopped s i x) i (e .wait))
+        (ap (λ (z : Slot). withChain k s (putAt (s .slots) i z) (xs ++ e ∷ ys)) new ∙ started-as k s i (e .wait) x (xs ++ e ∷ ys) none goes)
+        ok
+
     start-mid : (m : Mode) → k ≡ chainFor m → (r u : ℕ) → place (λ z. z .wait) e (chainOf k s) ≡ xs ++ e ∷ ys
         → timerPut (insertedWords k t (lastSlot 0 xs) (e .slot) w) (e .slot) (waitingKind m) (intervalIn (chainFor m) (e .wait)) r u
         ≡ writtenOver (started m s (e .slot) (e .wait) r u) t
     start-mid m in-k r u goes =
         let interval = intervalIn (chainFor m) (e .wait) in
         let i = e .slot in
-        let p = lastSlot 0 xs in
-        let n = first ys in
-        let x = slotAt (s .slots) i in
-        let new : record { kind = waitingKind m; name = nameOf t i; interval = interval; routine = r; userData = u } ≡ waitingAs m x (e .wait) r u =
+        let y = waitingAs m (slotAt (s .slots) i) (e .wait) r u in
+        let new : record { kind = waitingKind m; name = nameOf t i; interval = interval; routine = r; userData = u } ≡ y =
         ap (λ (z : Slot). waitingAs m z (e .wait) r u) (holds-parts t s h .slots i low high) in
-        let edit = timer-put-edit (waitingKind m) interval r u refl
-        (relinked-edit k t p i n i (waitBehind k t n w) i low (own-not-last around) (own-not-first around)
-        (omega (arith, last-high around, h .long)) (omega (arith, first-high around, h .long)) (omega (arith, h .long)) w n p) in
-        ap (λ (j : ℕ). timerPut (relinked k t p i j i (waitBehind k t j w) i w j p) i (waitingKind m) interval r u) (rest .link)
-        ∙ edited h around edit (xs ++ e ∷ ys)
-        (led-front h around edit ys (e ∷ ys) whole
-        (record {
-          link = edit .link;
-          linked = (
-            record { next = edit .own 6 (omega arith); previous = edit .own 7 (omega arith); wait = edit .own 3 (omega arith) ∙ w-is },
-            led-back h around edit p (lastWait 0 xs) (e .wait) follower-wait (rest .linked),
-          );
-        }))
-        (λ j. times-but j xs e ys)
-        (λ z. absurd (omega (arith, z, times-at xs e ys)))
-        (started m s i (e .wait) r u)
-        (ap (λ (z : Slot). withChain k s (putAt (s .slots) i z) (xs ++ e ∷ ys)) new
-        ∙ started-as k s i (e .wait) (waitingAs m x (e .wait) r u) (xs ++ e ∷ ys) none goes
-        ∙ ap (λ (j : Chain). inserted j (stopped s i (waitingAs m x (e .wait) r u)) i (e .wait)) in-k)
-        (chained-started m s (h .chained) i (e .wait) r u low high)
+        join-mid y (timerPut (insertedWords k t (lastSlot 0 xs) i w) i (waitingKind m) interval r u)
+        (set (set (set (set linkedWords 0 (waitingKind m)) 2 interval) 4 r) 5 u) (timer-put-edit (waitingKind m) interval r u refl inserted-edit)
+        refl refl refl new goes
+        (subst (λ (j : Chain). Chained (inserted j (stopped s i y) i (e .wait))) (sym in-k) (chained-started m s (h .chained) i (e .wait) r u low high))
+        ∙ ap (λ (j : Chain). writtenOver (inserted j (stopped s i y) i (e .wait)) t) in-k
+
+    -- only its kind is written
+    kind-mid : (kind : ℕ) → place (λ z. z .wait) e (chainOf k s) ≡ xs ++ e ∷ ys
+        → Chained (inserted k (stopped s (e .slot) (became kind (slotAt (s .slots) (e .slot)))) (e .slot) (e .wait))
+        → set (insertedWords k t (lastSlot 0 xs) (e .slot) w) (fieldWord (e .slot) 0) kind
+        ≡ writtenOver (inserted k (stopped s (e .slot) (became kind (slotAt (s .slots) (e .slot)))) (e .slot) (e .wait)) t
+    kind-mid kind goes ok =
+        let i = e .slot in
+        let x = slotAt (s .slots) i in
+        join-mid (became kind x) (set (insertedWords k t (lastSlot 0 xs) i w) (fieldWord i 0) kind) (set linkedWords 0 kind)
+        (edit-set 0 kind (omega arith) (omega arith) inserted-edit) refl refl refl (ap (became kind) (holds-parts t s h .slots i low high)) goes ok
 
 -- ---- a table
 
@@ -184,3 +219,15 @@ module _ (k : Chain) (t : List ℕ) (i : ℕ) (h : IdleInTable t i) (n p w : ℕ
       ∙ rw (at .slot) (start-mid k t (read t) (h .in-table .holds) (upTo n c) e (beyond n c) (parted n c)
       (h .in-table .low) (in-slots t i (h .in-table)) (in-none t i (h .in-table) (h .idle)) (last-up 0 n c zero-le) (first-beyond n c)
       w (at .word) m in-k r u (placed e c))
+
+  -- the words after the slot was inserted, and its kind written
+  pub kind-words : (kind : ℕ) → Chained (inserted k (stopped (read t) i (became kind (slotAt (read t .slots) i))) i n) → {t₁ t₂ : List ℕ}
+      → t₁ ≡ insertedWords k t p i w → t₂ ≡ set t₁ (fieldWord i 0) kind
+      → t₂ ≡ writtenOver (inserted k (stopped (read t) i (became kind (slotAt (read t .slots) i))) i n) t
+  kind-words kind ok put store =
+      let c = chainOf k (read t) in
+      let e : Link = record { slot = i; wait = n } in
+      store ∙ ap (λ (l : List ℕ). set l (fieldWord i 0) kind) put
+      ∙ rw (at .slot) (kind-mid k t (read t) (h .in-table .holds) (upTo n c) e (beyond n c) (parted n c)
+      (h .in-table .low) (in-slots t i (h .in-table)) (in-none t i (h .in-table) (h .idle)) (last-up 0 n c zero-le) (first-beyond n c)
+      w (at .word) kind (placed e c) ok)

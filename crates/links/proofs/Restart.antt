@@ -1,6 +1,6 @@
 -- To stop and then to start is to start: the table after the stop holds the stopped state and is read as that, and what a start makes of it is
 -- what it makes of the state before. Assumes nothing.
-use mathlib.Core.Path.{_≡_, refl, ap, ap₂, _∙_}
+use mathlib.Core.Path.{_≡_, ap, ap₂, _∙_}
 use Prim.Native.Nat.{ℕ}
 use native.Mathlib.Omega.{arith}
 use mathlib.Core.List.{List}

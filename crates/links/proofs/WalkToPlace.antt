@@ -1,22 +1,23 @@
 -- Along a chain to the place of a new link: at each slot the chain is a front, all of it due by then, and a back; what is left of the ticks
--- is what the front leaves of them. Assumes nothing.
-use mathlib.Core.Path.{_≡_, refl, sym, ap, ap₂, _∙_}
+-- is what the front leaves of them. The walk may start at any slot of the chain that is due by then. Assumes nothing.
+use mathlib.Core.Path.{_≡_, refl, sym, ap, ap₂, _∙_, subst}
 use mathlib.Core.Logic.{_≢_}
-use Prim.Native.Nat.{ℕ, _+_, _-_, _*_, _≤_, _<_, zero-le}
+use Prim.Native.Nat.{ℕ, zero, suc, _+_, _-_, _*_, _≤_, _<_, zero-le}
 use native.Mathlib.Omega.{arith}
 use mathlib.Core.List.{List, [], _∷_, _++_, append-assoc, append-nil}
 use lib.ListN.{length, length-append}
 use borrow.Author.Tests.{le-leb, lt-leb}
 use Rattle.model.specs.declared.Chain.{Chain}
 use Rattle.model.specs.declared.Chain.the-variants.{ByTicks, ByDate}
-use Rattle.model.specs.Lists.{All}
-use Rattle.model.specs.State.{Link, chainOf}
-use Rattle.model.specs.Words.{first, difference, word, read, waitOf, nextOf}
-use Rattle.model.proofs.ListLaws.{all-append}
+use Rattle.model.specs.Lists.{All, Sorted}
+use Rattle.model.specs.State.{Link, chainOf, waitAt}
+use Rattle.model.specs.Words.{first, difference, accumulated, word, read, waitOf, nextOf}
+use Rattle.model.proofs.ListLaws.{all-map, all-append}
 use Rattle.model.proofs.WellFormed.{Holds}
-use Rattle.model.proofs.StateWords.{linkWord, Stands, holds-parts}
-use Rattle.links.specs.Places.{At, upTo, lastSlot, lastWait}
-use Rattle.links.proofs.LinkInMiddle.{last-slot, last-wait, mid-stands, mid-own, last-low}
+use Rattle.model.proofs.Chains.{once, met-in-range}
+use Rattle.model.proofs.StateWords.{linkWord, link-field, Stands, holds-parts, difference-total}
+use Rattle.links.specs.Places.{At, From, upTo, lastSlot, lastWait}
+use Rattle.links.proofs.LinkInMiddle.{last-slot, last-wait, Split, split, all-mid, mid-stands, mid-own, mid-sorted, last-low}
 use Rattle.links.proofs.Positions.{position, last-of}
 
 -- ---- what is left
@@ -68,17 +69,72 @@ pub record Walked (k : Chain) (t : List ℕ) (n p left i : ℕ) : Type 0 where
 abbrev pub ahead : Chain → List ℕ → ℕ → ℕ → ℕ
 ahead k t p left = left + (length (chainOf k (read t)) - position p (chainOf k (read t)))
 
-pub walk-start : (k : Chain) (t : List ℕ) (n i : ℕ) → Holds t (read t) → i ≡ word t (linkWord k 0) → Walked k t n 0 n i
-walk-start k t n i h e = record {
-  holds = h;
-  front = [];
-  back = chainOf k (read t);
-  whole = refl;
-  due = tt;
-  before = refl;
-  next = e ∙ holds-parts t (read t) h .lay k .links 0 (λ p. absurd (omega arith));
-  rest = sym (differ-zero k n);
-}
+-- ---- the start
+
+-- up to a link none is due after it
+sorted-up : (xs : List Link) (e : Link) (ys : List Link) → Sorted (λ w. w .wait) (xs ++ e ∷ ys) → All (λ w. w .wait ≤ e .wait) (xs ++ (e ∷ []))
+sorted-up [] e ys h = (omega arith, tt)
+sorted-up (x ∷ xs) e ys h = (all-mid (λ w. x .wait ≤ w .wait) xs e ys (h .0), sorted-up xs e ys (h .1))
+
+module _ (k : Chain) (t : List ℕ) where
+  -- there is no slot 0
+  pub zero-wait : Holds t (read t) → waitAt 0 (chainOf k (read t)) ≡ 0
+  zero-wait h = last-of k (read t) (h .chained) [] (chainOf k (read t)) refl .wait
+
+  pub from-inside : (p left : ℕ) → From k t p left → 8 * p + 10 ≤ length t
+  from-inside zero left h = omega (arith, h .holds .long)
+  from-inside (suc p) left h = omega (arith, h .holds .long, met-in-range (read t) (h .holds .chained) k (suc p) (h .there (omega arith)) .1)
+
+  -- from the chain's start
+  pub from-start : (n : ℕ) → Holds t (read t) → From k t 0 n
+  from-start n h = record { holds = h; there = λ p. absurd (omega arith); due = omega (arith, zero-wait h) }
+
+  pub at-start : {n p w : ℕ} → Holds t (read t) → At k (read t) (accumulated k (waitAt 0 (chainOf k (read t))) n) p w → At k (read t) n p w
+  at-start {n} {p} {w} h = subst (λ (m : ℕ). At k (read t) m p w) (ap (λ (b : ℕ). accumulated k b n) (zero-wait h) ∙ none k)
+    where
+      none : (k : Chain) → accumulated k 0 n ≡ n
+      none ByTicks = omega arith
+      none ByDate = refl
+
+  -- from a slot of the chain
+  from-slot : (p left i : ℕ) → From k t p left → i ≡ word t (linkWord k p) → 0 < p → Split p (chainOf k (read t))
+      → Walked k t (accumulated k (waitAt p (chainOf k (read t))) left) p left i
+  from-slot p left i h e low f =
+      let s = read t in
+      let here = f .front ++ (f .entry ∷ []) in
+      let n = accumulated k (waitAt p (chainOf k s)) left in
+      let whole : chainOf k s ≡ here ++ f .back = f .whole ∙ sym (append-assoc (f .front) (f .entry ∷ []) (f .back)) in
+      let is : lastSlot 0 here ≡ p = last-slot 0 (f .front) (f .entry) ∙ f .slot in
+      let wait : waitAt p (chainOf k s) ≡ lastWait 0 here =
+      ap (λ (j : ℕ). waitAt j (chainOf k s)) (sym is) ∙ last-of k s (h .holds .chained) here (f .back) whole .wait in
+      record {
+        holds = h .holds;
+        front = here;
+        back = f .back;
+        whole = whole;
+        due = all-map (λ w q. omega (arith, q, h .due, wait, last-wait 0 (f .front) (f .entry))) here
+            (sorted-up (f .front) (f .entry) (f .back) (mid-sorted k t s (h .holds) (f .front) (f .entry) (f .back) (f .whole)));
+        before = sym is;
+        next = e ∙ link-field k t p low ∙ ap (nextOf t) (sym (f .slot)) ∙ mid-stands k t s (h .holds) (f .front) (f .entry) (f .back) (f .whole) .next;
+        rest = sym (difference-total k (waitAt p (chainOf k s)) left) ∙ ap (λ (b : ℕ). difference k b n) wait;
+      }
+
+  pub walk-from : (p left i : ℕ) → From k t p left → i ≡ word t (linkWord k p) → Walked k t (accumulated k (waitAt p (chainOf k (read t))) left) p left i
+  walk-from zero left i h e = record {
+    holds = h .holds;
+    front = [];
+    back = chainOf k (read t);
+    whole = refl;
+    due = tt;
+    before = refl;
+    next = e ∙ holds-parts t (read t) (h .holds) .lay k .links 0 (λ p. absurd (omega arith));
+    rest = sym (difference-total k 0 left) ∙ ap (λ (b : ℕ). difference k 0 (accumulated k b left)) (sym (zero-wait (h .holds)));
+  }
+  walk-from (suc p) left i h e =
+      from-slot (suc p) left i h e (omega arith)
+      (split (suc p) (chainOf k (read t)) (omega (arith, h .there (omega arith), once (read t) (h .holds .chained) k (suc p))))
+
+-- ---- on the way
 
 -- the link of slot i, and those behind it
 record Here (k : Chain) (t : List ℕ) (front : List Link) (i : ℕ) : Type 0 where

@@ -1,14 +1,17 @@
 -- Where a timer goes in a chain, and what the functions of this crate ask of a table. Assumes nothing: these are definitions.
-use Prim.Native.Nat.{ℕ, _≤_}
+use Prim.Native.Nat.{ℕ, _+_, _≤_, _<_}
 use mathlib.Core.Path.{_≡_}
-use mathlib.Core.Bool.{false, cond}
+use mathlib.Core.Bool.{true, false, cond}
 use mathlib.Core.List.{List, [], _∷_}
 use lib.Dec.{leb}
 use Rattle.model.specs.declared.Chain.{Chain}
-use Rattle.model.specs.Kinds.{waitsIn}
-use Rattle.model.specs.State.{Link, State, chainOf}
-use Rattle.model.specs.Words.{word, read, difference, slotCount, kindOf}
-use Rattle.model.proofs.WellFormed.{Holds}
+use Rattle.model.specs.declared.Chain.the-variants.{ByTicks}
+use Rattle.model.specs.declared.Mode.the-variants.{Every}
+use Rattle.model.specs.Kinds.{kindAt, waitingKind, waitsIn}
+use Rattle.model.specs.State.{Link, State, chainOf, slotAt, waitAt}
+use Rattle.model.specs.Directives.{stored, became, inserted}
+use Rattle.model.specs.Words.{word, read, difference, accumulated, slotCount, kindOf, intervalOf}
+use Rattle.model.proofs.WellFormed.{timesIn, Holds}
 
 -- the first links of a chain, whose wait is not above n, and the others
 abbrev pub upTo : ℕ → List Link → List Link
@@ -39,7 +42,31 @@ pub record InTable (t : List ℕ) (i : ℕ) : Type 0 where
   pub low : 1 ≤ i
   pub high : i ≤ slotCount t
 
--- and does not wait
+-- it waits in chain k, and stops as that kind
+pub record Stops (t : List ℕ) (k : Chain) (i idle : ℕ) : Type 0 where
+  pub in-table : InTable t i
+  pub waits : waitsIn k (kindOf t i) ≡ true
+  pub kind : idle ≡ kindAt (kindOf t i) .whenStopped
+
+-- it does not wait
 pub record IdleInTable (t : List ℕ) (i : ℕ) : Type 0 where
   pub in-table : InTable t i
   pub idle : (k : Chain) → waitsIn k (kindOf t i) ≡ false
+
+-- slot p is one of chain k, or 0 for the chain's start, and is due by the time that is `amount` behind it
+pub record From (k : Chain) (t : List ℕ) (p amount : ℕ) : Type 0 where
+  pub holds : Holds t (read t)
+  pub there : 0 < p → 0 < timesIn (chainOf k (read t)) p
+  pub due : waitAt p (chainOf k (read t)) ≤ accumulated k (waitAt p (chainOf k (read t))) amount
+
+-- an idle periodic timer waits again, for its interval
+abbrev pub waitsAgain : State → ℕ → State
+waitsAgain s i =
+    let x = slotAt (s .slots) i in
+    inserted ByTicks (stored s i (became (waitingKind Every) x)) i (x .interval)
+
+-- slot i does not wait, and its interval is `left` more than the ticks left of slot p
+pub record Again (t : List ℕ) (i p left : ℕ) : Type 0 where
+  pub idle : IdleInTable t i
+  pub from : From ByTicks t p left
+  pub sum : waitAt p (read t .ticking) + left ≡ intervalOf t i

@@ -2,13 +2,14 @@
 // what it waits for. What the chains are, and which words change, is in `chains`.
 ghost use mathlib.Core.Path.{_≡_};
 ghost use Prim.Native.Nat.{_+_, _*_, _<_, _≤_};
+ghost use mathlib.Core.Bool.{true};
 ghost use lib.ListN.{length};
-ghost use Rattle.model.specs.Kinds.{chainFor, waitingKind};
-ghost use Rattle.model.specs.State.{slotAt, waitAt};
+ghost use Rattle.model.specs.Kinds.{kindAt, chainFor, waitingKind, linked, waitsIn};
+ghost use Rattle.model.specs.State.{chainOf, slotAt, waitAt};
 ghost use Rattle.model.specs.Directives.{stored, stopped, idled, intervalIn, started};
-ghost use Rattle.model.specs.Words.{difference, read, writtenOver};
+ghost use Rattle.model.specs.Words.{difference, accumulated, read, writtenOver, waitOf};
 ghost use Rattle.model.proofs.WellFormed.{Holds, timesIn};
-ghost use Rattle.links.specs.Places.{At, InTable, IdleInTable};
+ghost use Rattle.links.specs.Places.{At, InTable, Stops, IdleInTable, From, Again, waitsAgain};
 ghost use Rattle.links.specs.TimerWords.{timerPut};
 use chains::extract;
 use chains::follower;
@@ -17,6 +18,7 @@ use model::Chain;
 use model::Mode;
 use table::DATA;
 use table::IDLE_DATE;
+use table::IDLE_EVERY;
 use table::IDLE_TICKS;
 use table::INTERVAL;
 use table::KIND;
@@ -26,6 +28,7 @@ use table::PREVIOUS;
 use table::ROUTINE;
 use table::WAIT;
 use table::WAITING_DATE;
+use table::WAITING_EVERY;
 use table::WAITING_TICKS;
 use table::get;
 use table::put;
@@ -37,6 +40,7 @@ fn chain_for(mode: Mode) -> Chain
     match mode {
         Mode::After => Chain::ByTicks,
         Mode::When => Chain::ByDate,
+        Mode::Every => Chain::ByTicks,
     }
 }
 
@@ -47,6 +51,7 @@ fn waiting_kind(mode: Mode) -> u32
     match mode {
         Mode::After => WAITING_TICKS,
         Mode::When => WAITING_DATE,
+        Mode::Every => WAITING_EVERY,
     }
 }
 
@@ -60,21 +65,53 @@ fn interval_in(chain: Chain, amount: u32) -> u32
     }
 }
 
+// The kind of a timer that stops; one that does not wait keeps its own.
+pub fn stopped_kind(kind: u32) -> u32
+    ensures { λ r. ⌜ r ≡ kindAt kind .whenStopped ⌝ }
+{
+    if kind == WAITING_TICKS {
+        return IDLE_TICKS;
+    }
+    if kind == WAITING_DATE {
+        return IDLE_DATE;
+    }
+    if kind == WAITING_EVERY {
+        return IDLE_EVERY;
+    }
+    kind
+}
+
+// The chain in which a timer of the kind waits.
+fn chain_in(kind: u32) -> Chain
+    requires { ⌜ linked kind ≡ true ⌝ }
+    ensures { λ r. ⌜ waitsIn r kind ≡ true ⌝ }
+{
+    if kind == WAITING_DATE {
+        return Chain::ByDate;
+    }
+    Chain::ByTicks
+}
+
+// A timer that waits in the chain stops, as that kind.
+pub fn stop_in(t: &mut [u32], chain: Chain, i: u32, idle: u32)
+    requires { ⌜ Stops (now t) chain i idle ⌝ }
+    ensures { λ _. ⌜ now (t .exit) ≡ writtenOver (stopped (read (now (t .entry))) i (idled (slotAt (read (now (t .entry)) .slots) i))) (now (t .entry)) ⌝ }
+{
+    extract(t, chain, i);
+    put(t, i, KIND, idle);
+}
+
 // A waiting timer becomes idle of its own kind; one that does not wait stays as it is.
 pub fn stop(t: &mut [u32], i: u32)
     requires { ⌜ InTable (now t) i ⌝ }
     ensures { λ _. ⌜ now (t .exit) ≡ writtenOver (stopped (read (now (t .entry))) i (idled (slotAt (read (now (t .entry)) .slots) i))) (now (t .entry)) ⌝ }
 {
     let kind = get(t, i, KIND);
-    if kind == WAITING_TICKS {
-        extract(t, Chain::ByTicks, i);
-        put(t, i, KIND, IDLE_TICKS);
+    let idle = stopped_kind(kind);
+    if idle == kind {
         return;
     }
-    if kind == WAITING_DATE {
-        extract(t, Chain::ByDate, i);
-        put(t, i, KIND, IDLE_DATE);
-    }
+    stop_in(t, chain_in(kind), i, idle);
 }
 
 // Where a timer goes: the slot before it, and its wait.
@@ -94,14 +131,15 @@ fn behind(chain: Chain, left: u32, w: u32) -> u32
     }
 }
 
-// The place of a timer of wait n: behind every timer due by then.
-fn find_place(t: &[u32], chain: Chain, n: u32) -> Place
-    requires { ⌜ Holds (now t) (read (now t)) ⌝ }
-    ensures { λ r. ⌜ At chain (read (now (t .entry))) n (r .before) (r .wait) ⌝ }
+// The place of a timer that is due `amount` ticks after slot `from`, or at the date `amount`: behind every timer due by then. Slot `from` is
+// one of the chain that is due by then, or 0 for the chain's start.
+fn place_from(t: &[u32], chain: Chain, from: u32, amount: u32) -> Place
+    requires { ⌜ From chain (now t) from amount ⌝ }
+    ensures { λ r. ⌜ At chain (read (now (t .entry))) (accumulated chain (waitAt from (chainOf chain (read (now (t .entry))))) amount) (r .before) (r .wait) ⌝ }
 {
-    let mut p = 0;
-    let mut left = n;
-    let mut i = follower(t, chain, 0);
+    let mut p = from;
+    let mut left = amount;
+    let mut i = follower(t, chain, from);
     loop {
         if i == 0 {
             break Place {
@@ -120,6 +158,14 @@ fn find_place(t: &[u32], chain: Chain, n: u32) -> Place
         p = i;
         i = get(t, i, NEXT);
     }
+}
+
+// The place of a timer of wait n: behind every timer due by then.
+fn find_place(t: &[u32], chain: Chain, n: u32) -> Place
+    requires { ⌜ Holds (now t) (read (now t)) ⌝ }
+    ensures { λ r. ⌜ At chain (read (now (t .entry))) n (r .before) (r .wait) ⌝ }
+{
+    place_from(t, chain, 0, n)
 }
 
 // Kind, interval, routine and user data of slot i.
@@ -155,6 +201,19 @@ pub fn start(t: &mut [u32], mode: Mode, i: u32, amount: u32, routine: u32, user_
 {
     stop(t, i);
     start_idle(t, mode, i, amount, routine, user_data);
+}
+
+// An idle periodic timer waits again for its interval, behind every timer due at the same tick: it is due `left` ticks after slot `from`, or
+// from now where `from` is 0.
+pub fn wait_again(t: &mut [u32], i: u32, from: u32, left: u32)
+    requires { ⌜ Again (now t) i from left ⌝ }
+    ensures { λ _. ⌜ now (t .exit) ≡ writtenOver (waitsAgain (read (now (t .entry))) i) (now (t .entry)) ⌝ }
+{
+    let place = place_from(t, Chain::ByTicks, from, left);
+    let p = place.before;
+    let w = place.wait;
+    insert(t, Chain::ByTicks, p, i, w);
+    put(t, i, KIND, WAITING_EVERY);
 }
 
 // A slot gets another kind and name, and what was stored at a start is cleared.

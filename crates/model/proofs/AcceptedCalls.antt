@@ -13,7 +13,7 @@ use Rattle.calendar.specs.declared.WallTime.{WallTime}
 use Rattle.calendar.specs.Calendar.{allOf, valid, secondsOf}
 use Rattle.model.specs.Lists.{All}
 use Rattle.model.specs.Status.{NotSound, numberOf, Refusal, when, firstOf}
-use Rattle.model.specs.Calls.{Call, layOut, create, ident, cancel, delete, fireAfter, fireWhen, reset, ticksLeft, tick, setClock, getClock}
+use Rattle.model.specs.Calls.{Call, layOut, create, ident, cancel, delete, fireAfter, fireWhen, fireEvery, reset, ticksLeft, tick, setClock, getClock}
 use Rattle.model.specs.Kinds.{lastByTicks}
 use Rattle.model.specs.State.{State, slotAt, idBase, indexOf, names}
 use Rattle.model.specs.Directives.{lowestFree, lowestNamed, isShort, limits, refusals}
@@ -115,6 +115,7 @@ Accepted w s (cancel id) = Named s id
 Accepted w s (delete id) = Named s id
 Accepted w s (fireAfter id n r u) = StartsByTicks s id n r
 Accepted w s (fireWhen id d r u) = StartsByDate s id d r
+Accepted w s (fireEvery id n r u) = StartsByTicks s id n r
 Accepted w s (reset id) = Named s id × (lastByTicks (slotAt (s .slots) (indexOf id) .kind) ≡ true)
 Accepted w s (ticksLeft id) = Named s id
 Accepted w s (tick list) = LongEnough s list
@@ -160,6 +161,9 @@ module _ (words : List ℕ) (s : State) where
         later = ltb-true (s .clock .second) (secondsOf w) (date .1);
         names-one = known s id (p 4);
       }
+  accepted-facts (fireEvery id n r u) e =
+      let p = not-refused (fireEvery id n r u) e in
+      record { ticks = positive n (p 1); routine = positive r (p 2); names-one = known s id (p 3) }
   accepted-facts (reset id) e =
       let p = not-refused (reset id) e in
       (known s id (p 1), not-false (lastByTicks (slotAt (s .slots) (indexOf id) .kind)) (p 2))

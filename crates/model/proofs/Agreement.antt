@@ -12,8 +12,8 @@ use Rattle.calendar.specs.Calendar.{secondsOf}
 use Rattle.calendar.proofs.Theorems.{seconds-in-range}
 use Rattle.model.specs.Lists.{keep, All}
 use Rattle.model.specs.Status.{firstOf}
-use Rattle.model.specs.Calls.{Call, layOut, create, ident, cancel, delete, fireAfter, fireWhen, reset, ticksLeft, tick, setClock, getClock}
-use Rattle.model.specs.Kinds.{Chain, ByTicks, ByDate, After, When, kindAt, chainFor, lastMode}
+use Rattle.model.specs.Calls.{Call, layOut, create, ident, cancel, delete, fireAfter, fireWhen, fireEvery, reset, ticksLeft, tick, setClock, getClock}
+use Rattle.model.specs.Kinds.{Chain, ByTicks, ByDate, After, When, Every, kindAt, chainFor, lastMode}
 use Rattle.model.specs.State.{State, free, slotAt, indexOf, Fired, listed}
 use Rattle.model.specs.Directives.{refusals, lowestFree, neverStarted, idled, effect}
 use Rattle.model.specs.History.{Start, startOf, Event, laidOutFor, changes, deletes, oneTick, clockSetTo, nothing, lastStart, eventOf, isTick, movesClock, Placed, starts, entry}
@@ -73,6 +73,10 @@ module _ (s : State) (h : List Event) (v : Agrees s h) (f : WellFormed s) (words
       let p = accepted-facts words s (fireWhen id w r u) e in
       let q = p .names-one in
       on-start s h v id (indexOf id) (q .is) (q .low) (q .high) When (secondsOf w) r u tt
+  agrees-step (fireEvery id n r u) e =
+      let p = accepted-facts words s (fireEvery id n r u) e in
+      let q = p .names-one in
+      on-start s h v id (indexOf id) (q .is) (q .low) (q .high) Every n r u (p .ticks)
   agrees-step (reset id) e =
       let p = accepted-facts words s (reset id) e in
       let i = indexOf id in
@@ -131,6 +135,7 @@ module _ (s : State) (h : List Event) (v : Agrees s h) (f : WellFormed s) (words
   lists-due (delete id) e = none-listed h (v .sized) (eventOf h (delete id)) refl
   lists-due (fireAfter id n r u) e = none-listed h (v .sized) (eventOf h (fireAfter id n r u)) refl
   lists-due (fireWhen id w r u) e = none-listed h (v .sized) (eventOf h (fireWhen id w r u)) refl
+  lists-due (fireEvery id n r u) e = none-listed h (v .sized) (eventOf h (fireEvery id n r u)) refl
   lists-due (reset id) e = none-listed h (v .sized) (eventOf h (reset id)) refl
   lists-due (ticksLeft id) e = none-listed h (v .sized) nothing refl
   lists-due (tick list) e = both-due h (v .sized) (eventOf h (tick list)) (map (listed (s .slots)) (effect s (tick list) .fired)) (tick-fires s h v f)
@@ -148,6 +153,7 @@ counts s h (cancel id) e = clash (sym e)
 counts s h (delete id) e = clash (sym e)
 counts s h (fireAfter id n r u) e = clash (sym e)
 counts s h (fireWhen id w r u) e = clash (sym e)
+counts s h (fireEvery id n r u) e = clash (sym e)
 counts s h (reset id) e = clash (sym e)
 counts s h (ticksLeft id) e = clash (sym e)
 counts s h (tick list) e = refl

@@ -1,22 +1,22 @@
--- Demand 3 read off the calls themselves: a timer that an accepted fire after started for n ticks fires in the nth accepted tick after it, where no
--- accepted call before ended it; and the clock stands at the second that it was set to and the ticks since. Assumes nothing.
-use mathlib.Core.Path.{_≡_, refl, sym, ap, ap₂, _∙_, subst}
+-- Demand 3 read off the calls themselves: a timer that an accepted fire after started for n ticks fires in the nth accepted tick after it, and one
+-- that an accepted fire every started in every nth, where no accepted call before ended it; and the clock stands at the second that it was
+-- set to and the ticks since. Assumes nothing.
+use mathlib.Core.Path.{_≡_, refl, sym, ap, ap₂, _∙_}
 use Prim.Native.Nat.{ℕ, suc, _+_, _-_, _*_, min}
 use native.Mathlib.Omega.{arith}
 use mathlib.Core.Bool.{Bool, true, false, cond, _||_}
 use mathlib.Core.Option.{Option, some}
-use mathlib.Core.List.{List, [], _∷_, _++_, append-assoc, List·Memᴰ}
+use mathlib.Core.List.{List, [], _∷_, _++_, append-assoc}
 use lib.Dec.{eqb}
 use borrow.Author.Tests.{eq-eqb}
 use Rattle.calendar.specs.Calendar.{lastSecond}
 use Rattle.model.specs.Lists.{any, count, All}
-use Rattle.model.specs.Calls.{Call, layOut, create, ident, cancel, delete, fireAfter, fireWhen, reset, ticksLeft, tick, setClock, getClock}
-use Rattle.model.specs.State.{Fired}
+use Rattle.model.specs.Calls.{Call, layOut, create, ident, cancel, delete, fireAfter, fireWhen, fireEvery, reset, ticksLeft, tick, setClock, getClock}
 use Rattle.model.specs.Outcome.{outcome}
 use Rattle.model.specs.History.{Event, laidOutFor, changes, deletes, oneTick, clockSetTo, nothing, eventOf, eventsOn, isTick, ticks, perSecond, clockAfter, ends}
-use Rattle.model.specs.Demand.{after, acceptedIn, Begins, eventsAfter}
+use Rattle.model.specs.Demand.{after, acceptedIn, eventsAfter}
 use Rattle.model.proofs.ListLaws.{cases, clash, count-append}
-use Rattle.model.proofs.Readings.{forTicks, tick-lists}
+use Rattle.model.proofs.Readings.{Lists, tick-lists, multiple-lists}
 
 -- ---- the words of a list of accepted calls
 
@@ -29,6 +29,7 @@ isTickCall (cancel i) = false
 isTickCall (delete i) = false
 isTickCall (fireAfter i n r u) = false
 isTickCall (fireWhen i w r u) = false
+isTickCall (fireEvery i n r u) = false
 isTickCall (reset i) = false
 isTickCall (ticksLeft i) = false
 isTickCall (tick list) = true
@@ -43,6 +44,7 @@ endsTimer id (cancel i) = eqb i id
 endsTimer id (delete i) = eqb i id
 endsTimer id (fireAfter i n r u) = eqb i id
 endsTimer id (fireWhen i w r u) = eqb i id
+endsTimer id (fireEvery i n r u) = eqb i id
 endsTimer id (reset i) = eqb i id
 endsTimer id (ticksLeft i) = false
 endsTimer id (tick list) = false
@@ -57,6 +59,7 @@ tick-is h (cancel i) = refl
 tick-is h (delete i) = refl
 tick-is h (fireAfter i n r u) = refl
 tick-is h (fireWhen i w r u) = refl
+tick-is h (fireEvery i n r u) = refl
 tick-is h (reset i) = refl
 tick-is h (ticksLeft i) = refl
 tick-is h (tick list) = refl
@@ -71,6 +74,7 @@ ends-is id h (cancel i) = refl
 ends-is id h (delete i) = refl
 ends-is id h (fireAfter i n r u) = refl
 ends-is id h (fireWhen i w r u) = refl
+ends-is id h (fireEvery i n r u) = refl
 ends-is id h (reset i) = refl
 ends-is id h (ticksLeft i) = refl
 ends-is id h (tick list) = refl
@@ -126,35 +130,53 @@ events-append h (c ∷ xs) ys = events-append (eventOf h c ∷ h) xs ys
 
 -- ---- the nth tick
 
--- A timer started for n ticks fires exactly at the nth accepted tick after that start, whatever the clock did: the calls before the start, the start,
--- the calls after it, of which n - 1 are accepted ticks and none that is accepted ends the timer, and then an accepted tick.
-module _ (w : List ℕ) (n t : ℕ) (ok : outcome w (layOut n t) .status ≡ 0) (before later : List Call) (id k r u : ℕ) (list : List ℕ) where
+-- The calls before a start, the start, the calls after it of which so many are accepted ticks and none that is accepted ends the timer, and then an
+-- accepted tick.
+module _ (w : List ℕ) (n t : ℕ) (before : List Call) (start : Call) (later : List Call) where
   abbrev pub atStart : List ℕ
   atStart = after w (layOut n t ∷ before)
 
   abbrev pub since : List Call
-  since = acceptedIn (outcome atStart (fireAfter id k r u) .table) later
+  since = acceptedIn (outcome atStart start .table) later
 
   abbrev pub whole : List Call
-  whole = before ++ (fireAfter id k r u ∷ later)
+  whole = before ++ (start ∷ later)
 
-  pub nth-tick-lists : outcome atStart (fireAfter id k r u) .status ≡ 0 → any (endsTimer id) since ≡ false → suc (count isTickCall since) ≡ k
-      → outcome (after w (layOut n t ∷ whole)) (tick list) .status ≡ 0
-      → (fired : List Fired) × Begins (outcome (after w (layOut n t ∷ whole)) (tick list) .list) list fired
-      × List·Memᴰ (record { id = id; routine = r; userData = u }) fired
+  events-since : outcome atStart start .status ≡ 0
+      → eventsAfter w (layOut n t ∷ whole)
+      ≡ eventsOn (eventOf (eventsAfter w (layOut n t ∷ before)) start ∷ eventsAfter w (layOut n t ∷ before)) since
+  events-since started =
+      ap (eventsOn []) (accepted-append w (layOut n t ∷ before) (start ∷ later))
+      ∙ events-append [] (acceptedIn w (layOut n t ∷ before)) (acceptedIn atStart (start ∷ later))
+      ∙ ap (λ (b : Bool). eventsOn (eventsAfter w (layOut n t ∷ before)) (cond b (start ∷ since) since))
+      (eq-eqb (outcome atStart start .status) 0 started)
+
+module _ (w : List ℕ) (n t : ℕ) (ok : outcome w (layOut n t) .status ≡ 0) (before later : List Call) (id k r u : ℕ) (list : List ℕ) where
+  -- A timer started for n ticks fires exactly at the nth accepted tick after that start, whatever the clock did.
+  pub nth-tick-lists : let start = fireAfter id k r u in
+      outcome (atStart w n t before start later) start .status ≡ 0
+      → any (endsTimer id) (since w n t before start later) ≡ false → suc (count isTickCall (since w n t before start later)) ≡ k
+      → let all = after w (layOut n t ∷ whole w n t before start later) in
+      outcome all (tick list) .status ≡ 0 → Lists all (tick list) list id r u
   nth-tick-lists started quiet nth ticked =
+      let start = fireAfter id k r u in
       let es = eventsAfter w (layOut n t ∷ before) in
-      let s = changes id (some (forTicks id k r u)) in
-      let m = more id (s ∷ es) since in
-      tick-lists w n t ok whole list es (m .events) id id k r u ticked (events ∙ m .are) (m .as-ended ∙ quiet) (omega (arith, nth, m .as-many))
-    where
-      events : eventsAfter w (layOut n t ∷ whole)
-          ≡ eventsOn (changes id (some (forTicks id k r u)) ∷ eventsAfter w (layOut n t ∷ before)) since
-      events =
-          ap (eventsOn []) (accepted-append w (layOut n t ∷ before) (fireAfter id k r u ∷ later))
-          ∙ events-append [] (acceptedIn w (layOut n t ∷ before)) (acceptedIn atStart (fireAfter id k r u ∷ later))
-          ∙ ap (λ (b : Bool). eventsOn (eventsAfter w (layOut n t ∷ before)) (cond b (fireAfter id k r u ∷ since) since))
-          (eq-eqb (outcome atStart (fireAfter id k r u) .status) 0 started)
+      let m = more id (eventOf es start ∷ es) (since w n t before start later) in
+      tick-lists w n t ok (whole w n t before start later) list es (m .events) id id k r u ticked
+      (events-since w n t before start later started ∙ m .are) (m .as-ended ∙ quiet) (omega (arith, nth, m .as-many))
+
+  -- A timer started for every n ticks fires at each accepted tick with which those after that start are a multiple of n.
+  pub multiple-tick-lists : (m : ℕ) → let start = fireEvery id k r u in
+      outcome (atStart w n t before start later) start .status ≡ 0
+      → any (endsTimer id) (since w n t before start later) ≡ false → suc (count isTickCall (since w n t before start later)) ≡ m * k
+      → let all = after w (layOut n t ∷ whole w n t before start later) in
+      outcome all (tick list) .status ≡ 0 → Lists all (tick list) list id r u
+  multiple-tick-lists times started quiet multiple ticked =
+      let start = fireEvery id k r u in
+      let es = eventsAfter w (layOut n t ∷ before) in
+      let m = more id (eventOf es start ∷ es) (since w n t before start later) in
+      multiple-lists w n t ok (whole w n t before start later) list es (m .events) id id k r u times ticked
+      (events-since w n t before start later started ∙ m .are) (m .as-ended ∙ quiet) (ap suc (m .as-many) ∙ multiple)
 
 -- ---- the clock
 

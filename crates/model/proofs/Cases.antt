@@ -30,7 +30,7 @@ lists t (c ∷ cs) = outcome t c .list ∷ lists (outcome t c .table) cs
 -- a case as the definitions have it
 abbrev pub computed : Case → Case
 computed (day w i) = day w (instantOf w)
-computed (calls t cs seen ticksLeftOrDate table) = calls t cs (lines t cs) (lists t cs) (after t cs)
+computed (calls t cs seen listed table) = calls t cs (lines t cs) (lists t cs) (after t cs)
 
 -- a wall time with ticks 0
 abbrev pub date : ℕ → ℕ → ℕ → ℕ → ℕ → ℕ → WallTime

@@ -1,18 +1,20 @@
 -- The chain that the events give, as it is shown, after an event at which nothing of it comes due, and after a start. Assumes nothing.
-use mathlib.Core.Path.{_≡_, refl, sym, ap, _∙_}
+use mathlib.Core.Path.{_≡_, refl, ap, ap₂, _∙_}
 use Prim.Native.Nat.{ℕ}
+use native.Mathlib.Nat.{zero-mod}
 use native.Mathlib.Omega.{arith}
-use mathlib.Core.Bool.{Bool, true, false, cond, not, _&&_, and-true}
+use mathlib.Core.Bool.{Bool, true, false, cond, not, _&&_, and-true, and-false}
 use mathlib.Core.Option.{Option, some}
-use mathlib.Core.List.{List, [], _∷_, map}
+use mathlib.Core.List.{List, [], _∷_, _++_, map, append-nil}
 use lib.Dec.{eqb}
 use Rattle.model.specs.Lists.{keep, place, All}
-use Rattle.model.specs.Kinds.{Chain, ByTicks, ByDate, Mode, After, When, chainFor, sameChain}
+use Rattle.model.specs.Kinds.{Chain, ByTicks, ByDate, Mode, After, When, Every, chainFor, sameChain}
 use Rattle.model.specs.Directives.{intervalIn}
 use Rattle.model.specs.History.{Start, Event, changes, isTick, movesClock, Placed, starts, ends, remaining, Waiting, waiting}
-use Rattle.model.proofs.ListLaws.{all, keep-on}
+use Rattle.model.proofs.ListLaws.{all, keep-on, keep-none}
 use Rattle.model.proofs.Order.{orderOn}
-use Rattle.model.proofs.HistoryLaws.{Sized, dueNow, lowered, chainFrom, remains, fresh, chain-more}
+use Rattle.model.proofs.KindLaws.{periodic}
+use Rattle.model.proofs.HistoryLaws.{Sized, dueNow, lowered, renewed, chainFrom, remains, returns, fresh, chain-more}
 
 -- the event can bring timers of the chain due: a tick those by ticks, whatever moves the clock those by date
 abbrev pub bringsDue : Chain → Event → Bool
@@ -34,10 +36,12 @@ map-same f h (w ∷ ws) = rw (h w, map-same f h ws)
 
 -- an event that starts no timer of this chain
 pub chain-moved : (k : Chain) (h : List Event) → All Sized (starts h) → (e : Event) → fresh k e h ≡ []
-    → chainFrom k (e ∷ h) ≡ map (lowered k e) (keep (remains k e h) (chainFrom k h))
+    → chainFrom k (e ∷ h)
+    ≡ orderOn (λ w. w .wait) (map (lowered k e) (keep (remains k e h) (chainFrom k h))) (map renewed (keep (returns k e h) (chainFrom k h)))
 chain-moved k h sized e n =
-    chain-more k h sized e
-    ∙ ap (λ (l : List Waiting). orderOn (λ w. w .wait) (map (lowered k e) (keep (remains k e h) (chainFrom k h))) l) n
+    let L = map (lowered k e) (keep (remains k e h) (chainFrom k h)) in
+    let R = map renewed (keep (returns k e h) (chainFrom k h)) in
+    chain-more k h sized e ∙ ap (λ (l : List Waiting). orderOn (λ w. w .wait) L (R ++ l)) n ∙ ap (orderOn (λ w. w .wait) L) (append-nil R)
 
 module _ (k : Chain) (h : List Event) (sized : All Sized (starts h)) (e : Event) (calm : bringsDue k e ≡ false) where
   only-ends : (l : List Waiting) → map (lowered k e) (keep (remains k e h) l) ≡ keep (λ w. not (ends (w .shows .id) e)) l
@@ -46,9 +50,20 @@ module _ (k : Chain) (h : List Event) (sized : All Sized (starts h)) (e : Event)
       ∙ keep-on (remains k e h) (λ w. not (ends (w .shows .id) e)) l
       (all (λ w. ap (λ (b : Bool). not (ends (w .shows .id) e) && not b) (not-due k e calm h w) ∙ and-true (not (ends (w .shows .id) e))) l)
 
-  -- an event at which nothing comes due, and which starts no timer of this chain
+  none-back : keep (returns k e h) (chainFrom k h) ≡ []
+  none-back = keep-none (returns k e h) (chainFrom k h) (all (λ w.
+      ap (λ (b : Bool). not (ends (w .shows .id) e) && (periodic (w .mode) && b)) (not-due k e calm h w)
+      ∙ ap (λ (b : Bool). not (ends (w .shows .id) e) && b) (and-false (periodic (w .mode))) ∙ and-false (not (ends (w .shows .id) e))) (chainFrom k h))
+
+  -- an event at which nothing comes due
+  chain-quiet : chainFrom k (e ∷ h) ≡ orderOn (λ w. w .wait) (keep (λ w. not (ends (w .shows .id) e)) (chainFrom k h)) (fresh k e h)
+  chain-quiet =
+      chain-more k h sized e
+      ∙ ap₂ (λ (l m : List Waiting). orderOn (λ w. w .wait) l (map renewed m ++ fresh k e h)) (only-ends (chainFrom k h)) none-back
+
+  -- and which starts no timer of this chain
   pub chain-calm : fresh k e h ≡ [] → chainFrom k (e ∷ h) ≡ keep (λ w. not (ends (w .shows .id) e)) (chainFrom k h)
-  chain-calm n = chain-moved k h sized e n ∙ only-ends (chainFrom k h)
+  chain-calm n = chain-quiet ∙ ap (orderOn (λ w. w .wait) (keep (λ w. not (ends (w .shows .id) e)) (chainFrom k h))) n
 
 -- ---- a start
 
@@ -64,6 +79,7 @@ begins s = record {
 amount-left : (m : Mode) (n : ℕ) → remaining m n 0 ≡ n
 amount-left After n = omega arith
 amount-left When d = refl
+amount-left Every n = omega (arith, zero-mod n)
 
 module _ (k : Chain) (h : List Event) (sized : All Sized (starts h)) (id : ℕ) (s : Start) where
   abbrev e : Event
@@ -79,12 +95,11 @@ module _ (k : Chain) (h : List Event) (sized : All Sized (starts h)) (id : ℕ) 
   pub chain-start : sameChain k (chainFor (s .mode)) ≡ true
       → chainFrom k (changes id (some s) ∷ h) ≡ place (λ w. w .wait) (begins s) (keep (λ w. not (eqb id (w .shows .id))) (chainFrom k h))
   chain-start here =
-      chain-more k h sized e
-      ∙ ap (λ (b : Bool). orderOn (λ w. w .wait) (map (lowered k e) (keep (remains k e h) (chainFrom k h))) (map waiting (cond b (x ∷ []) []))) here
+      let others = keep (λ w. not (eqb id (w .shows .id))) (chainFrom k h) in
+      chain-quiet k h sized e (calm k)
+      ∙ ap (λ (b : Bool). orderOn (λ w. w .wait) others (map waiting (cond b (x ∷ []) []))) here
       ∙ ap (λ (n : ℕ). place (λ w. w .wait)
-      (record { shows = begins s .shows; mode = begins s .mode; interval = begins s .interval; wait = n })
-      (map (lowered k e) (keep (remains k e h) (chainFrom k h)))) (amount-left (s .mode) (s .amount))
-      ∙ ap (place (λ w. w .wait) (begins s)) (only-ends k h sized e (calm k) (chainFrom k h))
+      (record { shows = begins s .shows; mode = begins s .mode; interval = begins s .interval; wait = n }) others) (amount-left (s .mode) (s .amount))
 
   pub chain-elsewhere : sameChain k (chainFor (s .mode)) ≡ false
       → chainFrom k (changes id (some s) ∷ h) ≡ keep (λ w. not (eqb id (w .shows .id))) (chainFrom k h)

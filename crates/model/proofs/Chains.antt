@@ -52,7 +52,7 @@ length-without i [] = omega arith
 length-without i (w ∷ ws) = let ih = length-without i ws in cases (eqb (w .slot) i) (λ e. rw e (omega arith)) (λ e. rw e (omega arith))
 
 -- a link of a chain stands in it
-met : (p l : List Link) → All (λ w. 0 < timesIn (p ++ l) (w .slot)) l
+pub met : (p l : List Link) → All (λ w. 0 < timesIn (p ++ l) (w .slot)) l
 met p [] = tt
 met p (w ∷ ws) = (
   omega (arith, count-append (λ y. eqb (y .slot) (w .slot)) p (w ∷ ws), times-own w ws),

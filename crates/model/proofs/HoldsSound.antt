@@ -34,7 +34,7 @@ unfolding slotSound
 slot-sound t i h loose =
     let kind = kindOf t i in
     passed (slotTests t i kind) (
-    le-leb kind 5 (h .kinds)
+    le-leb kind 7 (h .kinds)
     & or-if (not (eqb kind 0)) (eqb (nameOf t i) 0) (λ e. eq-eqb (nameOf t i) 0 (h .nameless (eqb-true kind 0 (not-false (eqb kind 0) e))))
     & or-if (eqb kind 0) (ltb 0 (nameOf t i)) (λ e. lt-ltb 0 (nameOf t i) (h .named (pos-of-ne-zero (eqb-false kind 0 e))))
     & or-if (ltb 1 kind) (unstarted t i) (λ e.

@@ -1,6 +1,6 @@
 -- Every accepted call leaves a well-formed state well formed, and fires no more timers than there are slots. The chains are kept in order by
 -- the parts of its work (Steps), each written slot has its shape (Shapes), the clock its bounds (ClockSteps). Assumes nothing.
-use mathlib.Core.Path.{_≡_, refl, sym, _∙_, subst}
+use mathlib.Core.Path.{_≡_, refl, sym, ap, _∙_, subst}
 use Prim.Native.Nat.{ℕ, _≤_, _<_, zero-le}
 use native.Mathlib.Nat.{pos-of-ne-zero}
 use native.Mathlib.Omega.{arith}
@@ -13,19 +13,21 @@ use Rattle.calendar.specs.Calendar.{secondsOf, lastSecond}
 use Rattle.calendar.proofs.Theorems.{seconds-in-range}
 use Rattle.model.specs.Lists.{keep, place, All}
 use Rattle.model.specs.Status.{firstOf}
-use Rattle.model.specs.Calls.{Call, layOut, create, ident, cancel, delete, fireAfter, fireWhen, reset, ticksLeft, tick, setClock, getClock, isLayOut}
-use Rattle.model.specs.Kinds.{Chain, ByTicks, ByDate, Mode, After, When, kindAt, chainFor, sameChain, waitsIn, lastMode}
+use Rattle.model.specs.Calls.{Call, layOut, create, ident, cancel, delete, fireAfter, fireWhen, fireEvery, reset, ticksLeft, tick, setClock, getClock, isLayOut}
+use Rattle.model.specs.Kinds.{Chain, ByTicks, ByDate, Mode, After, When, Every, kindAt, chainFor, sameChain, waitsIn, lastMode}
 use Rattle.model.specs.State.{Slot, Link, Clock, State, chainOf, withChain, withClock, free, slotAt, putAt, without, indexOf}
-use Rattle.model.specs.Directives.{refusals, lowestFree, laidOut, stored, neverStarted, stopped, idled, waitingAs, started, firedAll, due, fire, nearer, clockAt, clockStep, effect}
-use Rattle.model.proofs.ListLaws.{cases, clash, all-map, all-keep, all-passed, all-zip, all-place, length-keep}
-use Rattle.model.proofs.Slots.{put-any, length-put, length-firedAll, blank}
+use Rattle.model.specs.Directives.{refusals, lowestFree, laidOut, stored, neverStarted, stopped, idled, waitingAs, started, firedAll, due, off, fire, nearer, clockAt, clockStep, effect}
+use Rattle.model.proofs.ListLaws.{cases, clash, all-map, all-keep, all-passed, all-zip, all-place, all-mapped, length-keep}
+use Rattle.model.proofs.Order.{all-orderOn}
+use Rattle.model.proofs.Slots.{put-any, length-put, blank}
 use Rattle.model.proofs.WellFormed.{Chained, Shape, WellFormed}
 use Rattle.model.proofs.Chains.{fit-both}
-use Rattle.model.proofs.KindLaws.{stopped-not-in, timed-started, timed-mode}
+use Rattle.model.proofs.KindLaws.{stopped-not-in, again-not-dated, in-ticks, timed-started, timed-mode}
+use Rattle.model.proofs.GoingBack.{goesTo, again, backIn}
 use Rattle.model.proofs.ClockSteps.{clock-isSet, clock-perSecond, clock-into, clock-last, clock-unset}
 use Rattle.model.proofs.Searches.{found}
 use Rattle.model.proofs.Shapes.{free-shape, never-started-shape, Some, waiting-shape, idle-shape, shape-firedAll}
-use Rattle.model.proofs.Steps.{with-chain-slots, with-chain-clock, with-chain-each, stored-chain, stopped-chain, length-laid, length-stored, length-stopped, length-started, length-fire, chained-stored, chained-stopped, chained-started, chained-fire, chained-nearer, chained-with-clock, chained-laid}
+use Rattle.model.proofs.Steps.{with-chain-slots, with-chain-clock, with-chain-each, stored-chain, stopped-chain, length-laid, length-stored, length-stopped, length-started, fire-slots, fire-clock, fire-chain, none-back, fire-elsewhere, length-fire, chained-stored, chained-stopped, chained-started, chained-fire, chained-nearer, chained-with-clock, chained-laid}
 use Rattle.model.proofs.AcceptedCalls.{Named, accepted-facts}
 
 -- ---- the parts of well-formedness
@@ -139,6 +141,29 @@ module _ (s : State) (h : WellFormed s) where
 
 -- ---- timers fired
 
+-- what goes back has an interval to wait, and nothing goes back to a date
+ahead-back : (c : Clock) (slots : List Slot) (ws : List Link) → ((i : ℕ) → Shape (slotAt slots i)) → backIn ByDate slots ws ≡ []
+    → (j : Chain) → AllAhead j c (backIn j slots ws)
+ahead-back c slots ws shape none ByTicks =
+    all-mapped (again slots) (λ w. 1 ≤ w .wait) (keep (goesTo ByTicks slots) ws)
+    (all-map (λ w p. shape (w .slot) .by-ticks (in-ticks (slotAt slots (w .slot) .kind) p)) (keep (goesTo ByTicks slots) ws)
+    (all-passed (goesTo ByTicks slots) ws))
+ahead-back c slots ws shape none ByDate = subst (AllAhead ByDate c) (sym none) tt
+
+module _ (k : Chain) (limit : ℕ) (s : State) (chained : Chained s) (shape : (i : ℕ) → Shape (slotAt (s .slots) i)) where
+  fired-shape : (i : ℕ) → Shape (slotAt (fire k limit s .slots) i)
+  fired-shape = rw (fire-slots k limit s) (shape-firedAll (due k limit s) (s .slots) shape)
+
+  -- what is left in each chain is ahead, so what is there after they fired is
+  ahead-fired : (c : Clock) → AllAhead k c (keep (λ w. ltb limit (w .wait)) (chainOf k s))
+      → ((j : Chain) → sameChain j k ≡ false → AllAhead j c (chainOf j s)) → (j : Chain) → AllAhead j c (chainOf j (fire k limit s))
+  ahead-fired c own rest j =
+      let slots = firedAll (due k limit s) (s .slots) in
+      rw (fire-chain k limit s j) (all-orderOn (λ w. Ahead j c (w .wait)) (λ w. w .wait) (chainOf j (off k limit s)) (backIn j slots (due k limit s))
+      (with-chain-each s slots (keep (λ w. ltb limit (w .wait)) (chainOf k s)) (λ j. AllAhead j c) k own rest j)
+      (ahead-back c slots (due k limit s) (shape-firedAll (due k limit s) (s .slots) shape)
+      (none-back k limit s chained ByDate (λ n _. again-not-dated n)) j))
+
 -- dated timers at or before the clock's second fire: the others are after it
 formed-fired : (s : State) → Chained s → 1 ≤ length (s .slots) → ClockFormed (s .clock) → ((i : ℕ) → Shape (slotAt (s .slots) i))
     → ((k : Chain) → sameChain k ByDate ≡ false → AllAhead k (s .clock) (chainOf k s))
@@ -147,13 +172,13 @@ formed-fired s chained some clock shape rest dates =
     let now = s .clock .second in
     let after : Link → Bool = λ w. ltb now (w .wait) in
     let later = keep after (s .dated) in
-    formed-with-chain ByDate s (firedAll (due ByDate now s) (s .slots)) later
-    (chained-fire ByDate now s chained) (omega (arith, length-firedAll (due ByDate now s) (s .slots))) clock
-    (shape-firedAll (due ByDate now s) (s .slots) shape)
+    formed (fire ByDate now s) (chained-fire ByDate now s chained) (omega (arith, length-fire ByDate now s)) (rw (fire-clock ByDate now s) clock)
+    (fired-shape ByDate now s chained shape)
+    (rw (fire-clock ByDate now s) (ahead-fired ByDate now s chained shape (s .clock)
     (all-map (λ w p. (p .1 .0, ltb-true now (w .wait) (p .0), p .1 .1)) later
     (all-zip (λ w. after w ≡ true) (λ w. (s .clock .isSet ≡ true) × (w .wait ≤ lastSecond)) later
     (all-passed after (s .dated)) (all-keep (λ w. (s .clock .isSet ≡ true) × (w .wait ≤ lastSecond)) after (s .dated) dates)))
-    rest
+    rest))
 
 step-formed : (c : Clock) → ClockFormed c → ClockFormed (clockStep c)
 step-formed c h = record {
@@ -167,19 +192,27 @@ step-formed c h = record {
 module _ (s : State) (h : WellFormed s) where
   formed-ticked : (list : List ℕ) → WellFormed (effect s (tick list) .state)
   formed-ticked list =
-      let near = nearer s in
-      let clock = clockStep (s .clock) in
-      formed-fired (withClock (fire ByTicks 0 near) clock)
-      (chained-with-clock (fire ByTicks 0 near) clock (chained-fire ByTicks 0 near (chained-nearer s (h .chained))))
-      (omega (arith, length-firedAll (due ByTicks 0 near) (s .slots), h .some-slot))
+      formed-fired (withClock (fire ByTicks 0 (nearer s)) (clockStep (s .clock)))
+      (chained-with-clock (fire ByTicks 0 (nearer s)) (clockStep (s .clock)) (chained-fire ByTicks 0 (nearer s) near))
+      (omega (arith, length-fire ByTicks 0 (nearer s), h .some-slot))
       (step-formed (s .clock) (clock-formed s h))
-      (shape-firedAll (due ByTicks 0 near) (s .slots) (h .shape))
+      (fired-shape ByTicks 0 (nearer s) near (h .shape))
       rest
-      (all-map (λ w p. (clock-isSet (s .clock) ∙ p .0, p .2)) (s .dated) (all-ahead s h ByDate))
+      (subst (All (λ w. (clockStep (s .clock) .isSet ≡ true) × (w .wait ≤ lastSecond))) (sym (fire-elsewhere ByTicks 0 (nearer s) near ByDate (λ n _. again-not-dated n) refl))
+      (all-map (λ w p. (clock-isSet (s .clock) ∙ p .0, p .2)) (s .dated) (all-ahead s h ByDate)))
     where
+      near : Chained (nearer s)
+      near = chained-nearer s (h .chained)
+
+      own : AllAhead ByTicks (s .clock) (keep (λ w. ltb 0 (w .wait)) (nearer s .ticking))
+      own = all-map (λ w p. ltb-true 0 (w .wait) p) (keep (λ w. ltb 0 (w .wait)) (nearer s .ticking)) (all-passed (λ w. ltb 0 (w .wait)) (nearer s .ticking))
+
+      dated : (j : Chain) → sameChain j ByTicks ≡ false → AllAhead j (s .clock) (chainOf j (nearer s))
+      dated ByTicks e = clash e
+      dated ByDate e = all-ahead s h ByDate
+
       rest : (k : Chain) → sameChain k ByDate ≡ false → AllAhead k (clockStep (s .clock)) (chainOf k (withClock (fire ByTicks 0 (nearer s)) (clockStep (s .clock))))
-      rest ByTicks e =
-          all-map (λ w p. ltb-true 0 (w .wait) p) (keep (λ w. ltb 0 (w .wait)) (nearer s .ticking)) (all-passed (λ w. ltb 0 (w .wait)) (nearer s .ticking))
+      rest ByTicks e = ahead-fired ByTicks 0 (nearer s) near (h .shape) (s .clock) own dated ByTicks
       rest ByDate e = clash e
 
   formed-clock-set : (second : ℕ) → second ≤ lastSecond → WellFormed (fire ByDate second (withClock s (clockAt (s .clock) second 0)))
@@ -225,6 +258,10 @@ module _ (s : State) (h : WellFormed s) where
         let is = p .names-one in
         formed-started s h When (indexOf id) (secondsOf w) r u (is .low) (is .high) (has-name id is) (p .routine) tt
         (p .running, p .later, seconds-in-range w (p .is-valid))
+    kept (fireEvery id n r u) e =
+        let p = accepted-facts words s (fireEvery id n r u) e in
+        let is = p .names-one in
+        formed-started s h Every (indexOf id) n r u (is .low) (is .high) (has-name id is) (p .routine) (p .ticks) (p .ticks)
     kept (reset id) e =
         let p = accepted-facts words s (reset id) e in
         let is = p .0 in
@@ -250,6 +287,7 @@ module _ (s : State) where
   slots-kept (delete id) l = length-stopped s (indexOf id) free
   slots-kept (fireAfter id n r u) l = length-started After s (indexOf id) n r u
   slots-kept (fireWhen id w r u) l = length-started When s (indexOf id) (secondsOf w) r u
+  slots-kept (fireEvery id n r u) l = length-started Every s (indexOf id) n r u
   slots-kept (reset id) l =
       let x = slotAt (s .slots) (indexOf id) in
       length-started (lastMode (x .kind)) s (indexOf id) (x .interval) (x .routine) (x .userData)
@@ -269,6 +307,7 @@ module _ (s : State) where
   bound h (delete id) = zero-le
   bound h (fireAfter id n r u) = zero-le
   bound h (fireWhen id w r u) = zero-le
+  bound h (fireEvery id n r u) = zero-le
   bound h (reset id) = zero-le
   bound h (ticksLeft id) = zero-le
   bound h (tick list) =
@@ -277,9 +316,10 @@ module _ (s : State) where
       omega (
         arith,
         fit-both near (chained-nearer s (h .chained)),
-        length-append (due ByTicks 0 near) (due ByDate second near),
+        length-append (due ByTicks 0 near) (due ByDate second (fire ByTicks 0 near)),
         length-keep (λ w. leb (w .wait) 0) (near .ticking),
-        length-keep (λ w. leb (w .wait) second) (near .dated),
+        length-keep (λ w. leb (w .wait) second) (fire ByTicks 0 near .dated),
+        ap length (fire-elsewhere ByTicks 0 near (chained-nearer s (h .chained)) ByDate (λ n _. again-not-dated n) refl),
       )
   bound h (setClock date list) = omega (arith, fit-both s (h .chained), length-keep (λ w. leb (w .wait) (secondsOf date)) (s .dated))
   bound h getClock = zero-le

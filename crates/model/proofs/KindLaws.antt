@@ -9,7 +9,7 @@ use lib.ListN.{length, getD, List·getD-eq-default}
 use lib.Dec.{leb, ltb, eqb}
 use borrow.Author.Tests.{leb-true, le-leb, lt-leb, ltb-true, ltb-false, eqb-true}
 use Rattle.calendar.specs.Calendar.{allOf}
-use Rattle.model.specs.Kinds.{Chain, ByTicks, ByDate, Mode, After, When, Kind, kindEntry, kinds, kindAt, chainFor, waitingKind, sameChain, isIn, waitsIn, isSome, byTicks, lastByTicks, modeOrAfter}
+use Rattle.model.specs.Kinds.{Chain, ByTicks, ByDate, Mode, After, When, Every, Kind, kindEntry, kinds, kindAt, chainFor, waitingKind, isPeriodic, sameChain, isIn, waitsIn, isSome, byTicks, lastByTicks, modeOrAfter}
 use Rattle.model.proofs.ListLaws.{cases, clash, all-at}
 
 -- what a reading of kinds gives for each kind of a table
@@ -42,6 +42,14 @@ on-numbers f g same other n =
     (λ e.
     let is-none = no-kind n (ltb-false n (length kinds) e) in
     subst (λ (x : Kind). f n x ≡ g n x) (sym is-none) (other n is-none))
+
+-- two readings that agree on every kind of a chain, which the checker computes
+pub of-chain : {B : Type 0} (k : Chain) (f g : Kind → B)
+    → readAll (λ _ x. cond (isIn k (x .chain)) (f x) (g x)) 0 kinds ≡ readAll (λ _ x. g x) 0 kinds
+    → (n : ℕ) → waitsIn k n ≡ true → f (kindAt n) ≡ g (kindAt n)
+of-chain k f g same n e =
+    ap (λ b. cond b (f (kindAt n)) (g (kindAt n))) (sym e)
+    ∙ on-numbers (λ _ x. cond (isIn k (x .chain)) (f x) (g x)) (λ _ x. g x) same (λ n _. refl) n
 
 -- ---- chains
 
@@ -88,9 +96,26 @@ pub stopped-not-in : (k : Chain) (n : ℕ) → waitsIn k (kindAt n .whenStopped)
 stopped-not-in ByTicks = on-numbers (λ _ x. waitsIn ByTicks (x .whenStopped)) (λ _ _. false) refl (λ n e. ap (λ (x : Kind). isIn ByTicks (x .chain)) e)
 stopped-not-in ByDate = on-numbers (λ _ x. waitsIn ByDate (x .whenStopped)) (λ _ _. false) refl (λ n e. ap (λ (x : Kind). isIn ByDate (x .chain)) e)
 
-pub fired-not-in : (k : Chain) (n : ℕ) → waitsIn k (kindAt n .whenFired) ≡ false
-fired-not-in ByTicks = on-numbers (λ _ x. waitsIn ByTicks (x .whenFired)) (λ _ _. false) refl (λ n e. ap (λ (x : Kind). isIn ByTicks (x .chain)) e)
-fired-not-in ByDate = on-numbers (λ _ x. waitsIn ByDate (x .whenFired)) (λ _ _. false) refl (λ n e. ap (λ (x : Kind). isIn ByDate (x .chain)) e)
+-- the start was periodic
+abbrev pub periodic : Option Mode → Bool
+periodic none = false
+periodic (some m) = isPeriodic m
+
+-- a timer that fired waits again where it is periodic, in the interval chain
+pub again-by-ticks : (n : ℕ) → waitsIn ByTicks n ≡ true → waitsIn ByTicks (kindAt n .whenFired) ≡ periodic (kindAt n .last)
+again-by-ticks = of-chain ByTicks (λ x. waitsIn ByTicks (x .whenFired)) (λ x. periodic (x .last)) refl
+
+-- none waits in the dated chain, and none that was in it waits
+pub again-not-dated : (n : ℕ) → waitsIn ByDate (kindAt n .whenFired) ≡ false
+again-not-dated = on-numbers (λ _ x. waitsIn ByDate (x .whenFired)) (λ _ _. false) refl (λ n e. ap (λ (x : Kind). isIn ByDate (x .chain)) e)
+
+pub dated-not-again : (k : Chain) (n : ℕ) → waitsIn ByDate n ≡ true → waitsIn k (kindAt n .whenFired) ≡ false
+dated-not-again ByTicks = of-chain ByDate (λ x. waitsIn ByTicks (x .whenFired)) (λ _. false) refl
+dated-not-again ByDate = of-chain ByDate (λ x. waitsIn ByDate (x .whenFired)) (λ _. false) refl
+
+-- a timer in the interval chain was last started by interval
+pub in-ticks : (n : ℕ) → waitsIn ByTicks n ≡ true → lastByTicks n ≡ true
+in-ticks = of-chain ByTicks (λ x. byTicks (x .last)) (λ _. true) refl
 
 -- to stop and to fire leave a slot free or not
 pub stopped-free : (n : ℕ) → eqb (kindAt n .whenStopped) 0 ≡ eqb n 0
@@ -155,11 +180,14 @@ timed-last (some m) e = refl
 pub mode-in : (m : Mode) (k : Chain) → waitsIn k (waitingKind m) ≡ sameChain k (chainFor m)
 mode-in After k = refl
 mode-in When k = refl
+mode-in Every k = refl
 
 pub mode-last : (m : Mode) → kindAt (waitingKind m) .last ≡ some m
 mode-last After = refl
 mode-last When = refl
+mode-last Every = refl
 
 pub mode-kind : (m : Mode) → (2 ≤ waitingKind m) × (waitingKind m < length kinds)
 mode-kind After = (omega arith, omega arith)
 mode-kind When = (omega arith, omega arith)
+mode-kind Every = (omega arith, omega arith)

@@ -9,8 +9,8 @@ use lib.ListN.{length, replicate}
 use lib.Dec.{leb, ltb, eqb}
 use borrow.Author.Tests.{eqb-true, eqb-false, eq-eqb, ne-eqb}
 use Rattle.calendar.specs.Calendar.{allOf, secondsOf}
-use Rattle.model.specs.Calls.{Call, layOut, create, ident, cancel, delete, fireAfter, fireWhen, reset, ticksLeft, tick, setClock, getClock}
-use Rattle.model.specs.Kinds.{Kind, Mode, After, When, Chain, ByTicks, ByDate, kindAt, waitingKind, lastMode}
+use Rattle.model.specs.Calls.{Call, layOut, create, ident, cancel, delete, fireAfter, fireWhen, fireEvery, reset, ticksLeft, tick, setClock, getClock}
+use Rattle.model.specs.Kinds.{Kind, Mode, After, When, Every, Chain, ByTicks, ByDate, kindAt, waitingKind, lastMode}
 use Rattle.model.specs.State.{Slot, Link, State, withClock, free, slotAt, putAt, idBase, indexOf, names}
 use Rattle.model.specs.Directives.{lowestFree, laidOut, stored, neverStarted, stopped, idled, waitingAs, started, fired, firedAll, due, fire, nearer, clockAt, clockStep, effect}
 use Rattle.model.specs.Words.{sumOf, read}
@@ -24,7 +24,8 @@ use Rattle.model.proofs.Slots.{at-same, at-other, length-put, field-put
 use Rattle.model.proofs.WellFormed.{timesIn}
 use Rattle.model.proofs.Chains.{times-without}
 use Rattle.model.proofs.Searches.{found}
-use Rattle.model.proofs.Steps.{with-chain-slots}
+use Rattle.model.proofs.GoingBack.{with-chain-slots}
+use Rattle.model.proofs.Steps.{fire-slots}
 use Rattle.model.proofs.AcceptedCalls.{Named, named, named-true, Accepted, accepted-facts}
 use Rattle.model.proofs.OutcomeLaws.{status-is, outcome-accepted}
 use Rattle.model.proofs.CallTables.{state-left}
@@ -58,7 +59,7 @@ fired-slots (w ∷ ws) sl =
     then-free sl next (firedAll ws next) (put-free sl (w .slot) (fired x) (fired-free (x .kind))) (fired-slots ws next)
 
 fire-free : (k : Chain) (limit : ℕ) (s : State) → SameFree (s .slots) (fire k limit s .slots)
-fire-free k limit s = rw with-chain-slots (fired-slots (due k limit s) (s .slots))
+fire-free k limit s = rw (fire-slots k limit s) (fired-slots (due k limit s) (s .slots))
 
 start-free : (s : State) (m : Mode) (id amount r u : ℕ) → Named s id → SameFree (s .slots) (started m s (indexOf id) amount r u .slots)
 start-free s m id amount r u is =
@@ -137,6 +138,8 @@ lasts-step words s (fireAfter d n r u) p id =
     same-names s (started After s (indexOf d) n r u) (start-free s After d n r u (p .names-one)) id
 lasts-step words s (fireWhen d w r u) p id =
     same-names s (started When s (indexOf d) (secondsOf w) r u) (start-free s When d (secondsOf w) r u (p .names-one)) id
+lasts-step words s (fireEvery d n r u) p id =
+    same-names s (started Every s (indexOf d) n r u) (start-free s Every d n r u (p .names-one)) id
 lasts-step words s (reset d) p id =
     let x = slotAt (s .slots) (indexOf d) in
     same-names s (effect s (reset d) .state) (start-free s (lastMode (x .kind)) d (x .interval) (x .routine) (x .userData) (p .0)) id

@@ -16,6 +16,7 @@ pub mod HoldsSound
 pub mod ClockSteps
 pub mod FiredSlots
 pub mod Searches
+pub mod GoingBack
 pub mod Steps
 pub mod AcceptedCalls
 pub mod KeptWellFormed

@@ -9,7 +9,7 @@ use lib.ListN.{length, getD, drop, length-map, length-append, length-drop}
 use lib.Seq.{getD-drop, getD-append-add}
 use lib.Dec.{eqb}
 use borrow.Author.Tests.{eqb-true, eqb-false}
-use Rattle.model.specs.Calls.{Call, layOut, create, ident, cancel, delete, fireAfter, fireWhen, reset, ticksLeft, tick, setClock, getClock, lentTo}
+use Rattle.model.specs.Calls.{Call, layOut, create, ident, cancel, delete, fireAfter, fireWhen, fireEvery, reset, ticksLeft, tick, setClock, getClock, lentTo}
 use Rattle.model.specs.State.{State, Fired, listed}
 use Rattle.model.specs.Directives.{effect}
 use Rattle.model.specs.Words.{word, read, slotCount}
@@ -71,6 +71,7 @@ fits words s h (cancel id) p = zero-le
 fits words s h (delete id) p = zero-le
 fits words s h (fireAfter id n r u) p = zero-le
 fits words s h (fireWhen id w r u) p = zero-le
+fits words s h (fireEvery id n r u) p = zero-le
 fits words s h (reset id) p = zero-le
 fits words s h (ticksLeft id) p = zero-le
 fits words s h (tick list) p = omega (arith, p, bound s h (tick list))

@@ -1,14 +1,14 @@
 -- The order "by a number, the earlier first among equals" as a function: each element in turn is put into its place among those before it.
 -- It meets `InOrder`, which is how demand 3 states the order. Assumes nothing.
 use mathlib.Core.Path.{_≡_, refl, sym, ap, ap₂, _∙_}
-use Prim.Native.Nat.{ℕ, _≤_}
+use Prim.Native.Nat.{ℕ, _+_, _≤_}
 use native.Mathlib.Omega.{arith}
 use mathlib.Core.Bool.{Bool}
 use mathlib.Core.List.{List, [], _∷_, _++_, map, append-assoc, append-nil}
 use lib.Dec.{leb, eqb}
 use borrow.Author.Tests.{eqb-true}
-use Rattle.model.specs.Lists.{keep, place, All, Sorted, InOrder}
-use Rattle.model.proofs.ListLaws.{cases, all, all-map, all-passed, all-place, sorted-place, keep-place, place-last, map-place}
+use Rattle.model.specs.Lists.{keep, count, place, All, Sorted, InOrder}
+use Rattle.model.proofs.ListLaws.{cases, all, all-map, all-passed, all-place, sorted-place, keep-place, place-last, map-place, count-place}
 
 module _ {A : Type 0} where
   abbrev pub orderOn : (A → ℕ) → List A → List A → List A
@@ -22,9 +22,17 @@ module _ {A : Type 0} where
   all-orderOn P key acc [] h k = h
   all-orderOn P key acc (x ∷ xs) h k = all-orderOn P key (place key x acc) xs (all-place P key x acc (k .0) h) (k .1)
 
+  pub count-orderOn : (p : A → Bool) (key : A → ℕ) (acc l : List A) → count p (orderOn key acc l) ≡ count p acc + count p l
+  count-orderOn p key acc [] = omega arith
+  count-orderOn p key acc (x ∷ xs) =
+      let ih = count-orderOn p key (place key x acc) xs in
+      let one = count-place p key x acc in
+      cases (p x) (λ e. rw e (let o : count p (place key x acc) ≡ count p acc + 1 = rw e at one in omega arith))
+      (λ e. rw e (let o : count p (place key x acc) ≡ count p acc + 0 = rw e at one in omega arith))
+
   -- ---- `place` and `order`
 
-  sorted-orderOn : (key : A → ℕ) (acc l : List A) → Sorted key acc → Sorted key (orderOn key acc l)
+  pub sorted-orderOn : (key : A → ℕ) (acc l : List A) → Sorted key acc → Sorted key (orderOn key acc l)
   sorted-orderOn key acc [] h = h
   sorted-orderOn key acc (x ∷ xs) h = sorted-orderOn key (place key x acc) xs (sorted-place key x acc h)
 

@@ -6,7 +6,7 @@ use mathlib.Core.List.{List}
 use lib.Dec.{eqb}
 use borrow.Author.Tests.{eqb-true, eqb-false, eq-eqb, ne-eqb}
 use Rattle.model.specs.Status.{Status, numberOf, firstOf}
-use Rattle.model.specs.Calls.{Call, layOut, create, ident, cancel, delete, fireAfter, fireWhen, reset, ticksLeft, tick, setClock, getClock, isLayOut}
+use Rattle.model.specs.Calls.{Call, layOut, create, ident, cancel, delete, fireAfter, fireWhen, fireEvery, reset, ticksLeft, tick, setClock, getClock, isLayOut}
 use Rattle.model.specs.Directives.{refusals}
 use Rattle.model.specs.Words.{read}
 use Rattle.model.specs.Outcome.{Outcome, statusOn, refused, accepted, outcome}
@@ -22,6 +22,7 @@ each-call P lay other (cancel id) = other (cancel id) refl
 each-call P lay other (delete id) = other (delete id) refl
 each-call P lay other (fireAfter id n r u) = other (fireAfter id n r u) refl
 each-call P lay other (fireWhen id w r u) = other (fireWhen id w r u) refl
+each-call P lay other (fireEvery id n r u) = other (fireEvery id n r u) refl
 each-call P lay other (reset id) = other (reset id) refl
 each-call P lay other (ticksLeft id) = other (ticksLeft id) refl
 each-call P lay other (tick list) = other (tick list) refl

@@ -1,28 +1,33 @@
 -- What the words of demand 3 come to, for a reader who wants the places in the list: which list an order allows, when a start fires, and
 -- that nothing else does. Assumes nothing.
 use mathlib.Core.Path.{_≡_, refl, sym, ap, ap₂, _∙_, subst}
-use Prim.Native.Nat.{ℕ, suc, _≤_, _<_}
+use Prim.Native.Nat.{ℕ, suc, _+_, _*_, _/_, _%_, _≤_, _<_}
+use native.Mathlib.Nat.{mul-mod-left, div-add-mod', add-zero}
 use native.Mathlib.Omega.{arith}
-use mathlib.Core.Bool.{Bool, true, false, not, _&&_, _||_}
+use mathlib.Core.Bool.{Bool, true, false, not, _&&_, _||_, and-true}
 use mathlib.Core.Option.{Option, none, some}
 use mathlib.Core.List.{List, [], _∷_, _++_, map, List·Memᴰ, List·Memᴰ·head, List·Memᴰ·tail, Memᴰ·append-left, Memᴰ·append-right, Memᴰ·map, Memᴰ·cast, head-eq-of-cons-eq, tail-eq-of-cons-eq, nil≢cons, cons≢nil}
 use lib.Dec.{leb, eqb}
 use borrow.Author.Tests.{leb-true, leb-false, eqb-true, eqb-false, eq-eqb, ne-eqb}
 use Rattle.calendar.specs.declared.WallTime.{WallTime}
+use Rattle.calendar.specs.Calendar.{secondsOf}
 use Rattle.model.specs.Lists.{goesBehind, keep, any, place, All, Sorted, InOrder}
 use Rattle.model.specs.Calls.{Call, layOut, tick, setClock, lentTo}
-use Rattle.model.specs.Kinds.{Chain, ByTicks, ByDate, After, When, chainFor, sameChain}
-use Rattle.model.specs.State.{Fired}
-use Rattle.model.specs.History.{Start, startOf, Event, changes, oneTick, eventOf, clockSetTo, startIn, isTick, ticks, past, movesClock, Placed, withEvent, placed, starts, ends, wasEnded, isDue, wasDueIn, wasDue, waits, fires, inChain, ticksLeftOrDate, entry}
-use Rattle.model.specs.Directives.{effect}
+use Rattle.model.specs.Kinds.{Chain, ByTicks, ByDate, After, When, Every, chainFor, isPeriodic, sameChain}
+use Rattle.model.specs.State.{withClock, Fired}
+use Rattle.model.specs.History.{Start, startOf, Event, changes, oneTick, eventOf, clockSetTo, startIn, isTick, ticks, past, movesClock, Placed, withEvent, placed, starts, ends, wasEnded, isDue, wasDueIn, wasDue, fires, goesBack, inTurn, inChain, ticksLeftOrDate, entry}
+use Rattle.model.specs.Directives.{clockAt, effect}
 use Rattle.model.specs.Words.{writtenOver, links, read}
 use Rattle.model.specs.Sound.{sound}
 use Rattle.model.specs.Outcome.{Outcome, statusOn, outcome}
 use Rattle.model.specs.Demand.{after, Begins, eventsAfter}
-use Rattle.model.proofs.ListLaws.{cases, clash, all-map, all-append, all-mapped, all-keep, all-passed, all-zip, keep-none}
+use Rattle.model.proofs.ListLaws.{cases, clash, both, all-map, all-append, all-keep, all-passed, all-zip, keep-none}
 use Rattle.model.proofs.Order.{order, orderOn, all-orderOn, order-in-order}
 use Rattle.model.proofs.ReadBack.{links-is}
-use Rattle.model.proofs.HistoryLaws.{fewer}
+use Rattle.model.proofs.HistoryLaws.{all-starts, fewer}
+use Rattle.model.proofs.KindLaws.{dated-not-again}
+use Rattle.model.proofs.SoundHolds.{sound-holds}
+use Rattle.model.proofs.Steps.{fire-elsewhere, chained-with-clock}
 use Rattle.model.proofs.OutcomeLaws.{outcome-accepted, outcome-status}
 use Rattle.model.proofs.CallTables.{effect-holds}
 use Rattle.model.proofs.Demand3.{demand3}
@@ -81,14 +86,13 @@ pub record From (es : List Event) (g : Placed) : Type 0 where
 pub starts-from : (es : List Event) → All (From es) (starts es)
 starts-from [] = tt
 starts-from (e ∷ es) =
-    all-append (From (e ∷ es)) (map (withEvent e) (starts es)) (placed (startIn e) (e ∷ es))
-    (all-mapped (withEvent e) (From (e ∷ es)) (starts es) (all-map (λ g p. record {
+    all-starts (From es) (From (e ∷ es)) e es (λ g p. record {
       earlier = p .earlier;
       event = p .event;
       split = ap {B = List Event} (λ l. e ∷ l) (p .split);
       is-start = p .is-start;
       upto = p .upto;
-    }) (starts es) (starts-from es))) (go (startIn e) refl)
+    }) (starts-from es) (go (startIn e) refl)
   where
     go : (o : Option Start) → startIn e ≡ o → All (From (e ∷ es)) (placed o (e ∷ es))
     go none f = tt
@@ -99,18 +103,19 @@ starts-from (e ∷ es) =
 pub record Listed (es : List Event) (e : Event) (g : Placed) : Type 0 where
   pub place : From es g
   pub not-ended : wasEnded g ≡ false
-  pub not-due-before : wasDue g ≡ false
+  pub not-due-before : isPeriodic (g .begun .mode) ≡ false → wasDue g ≡ false
   pub due : isDue e g ≡ true
 
 listed-of : (es : List Event) (e : Event) (g : Placed) → From es g → fires e g ≡ true → Listed es e g
 listed-of es e g p f =
-    let all-three = three (wasEnded g) (wasDue g) (isDue e g) f in
+    let all-three = three (wasEnded g) (isPeriodic (g .begun .mode)) (wasDue g) (isDue e g) f in
     record { place = p; not-ended = all-three .0; not-due-before = all-three .1; due = all-three .2 }
   where
-    three : (a b c : Bool) → ((not a && not b) && c) ≡ true → (a ≡ false) × (b ≡ false) × (c ≡ true)
-    three true b c f = clash (sym f)
-    three false true c f = clash (sym f)
-    three false false c f = (refl, refl, f)
+    three : (a p b c : Bool) → ((not a && (p || not b)) && c) ≡ true → (a ≡ false) × (p ≡ false → b ≡ false) × (c ≡ true)
+    three true p b c f = clash (sym f)
+    three false true b c f = (refl, λ e. clash e, f)
+    three false false true c f = clash (sym f)
+    three false false false c f = (refl, λ e. refl, f)
 
 pub only-due : (k : Chain) (es : List Event) (e : Event) (l : List Placed) → InOrder ticksLeftOrDate (keep (inChain k) (keep (fires e) (starts es))) l
     → All (Listed es e) l
@@ -183,6 +188,12 @@ at-date P Q id timer d r u e =
     was B [] = refl
     was B (x ∷ Q) = ap (λ (b : Bool). (movesClock x && past d (x ∷ Q ++ B)) || b) (was B Q)
 
+-- A periodic start for n fires in e exactly if it was not ended and e is a tick with which the ticks since the start are a multiple of n.
+pub at-every-nth : (P Q : List Event) (id timer n r u : ℕ) (e : Event) → fires e (startAt P id (startOf timer Every n r u) Q)
+    ≡ (not (any (ends timer) Q) && (isTick e && eqb (suc (ticks Q) % n) 0))
+at-every-nth P Q id timer n r u e =
+    ap (λ (b : Bool). b && (isTick e && eqb (suc (ticks Q) % n) 0)) (and-true (not (any (ends timer) Q)))
+
 -- ---- 5. What fires is listed.
 
 mem-keep : {A : Type 0} (p : A → Bool) {x : A} (l : List A) → p x ≡ true → List·Memᴰ x l → List·Memᴰ x (keep p l)
@@ -207,10 +218,17 @@ mem-order : {A : Type 0} (key : A → ℕ) {z : A} (acc l : List A) → List·Me
 mem-order key acc (x ∷ xs) (List·Memᴰ·head q) = mem-acc key (place key x acc) xs (Memᴰ·cast q (mem-place key x acc))
 mem-order key acc (x ∷ xs) (List·Memᴰ·tail m) = mem-order key (place key x acc) xs m
 
+mem-turned : (e : Event) {x : Placed} (l : List Placed) → List·Memᴰ x l → List·Memᴰ x (inTurn e l)
+mem-turned e {x} l m =
+    cases (goesBack e x)
+    (λ f. Memᴰ·append-right (keep (λ g. not (goesBack e g)) l) (mem-keep (goesBack e) {x = x} l f m))
+    (λ f. Memᴰ·append-left (keep (goesBack e) l) (mem-keep (λ g. not (goesBack e g)) {x = x} l (ap not f) m))
+
 pub start-placed : (P Q : List Event) (id : ℕ) (s : Start) → List·Memᴰ (startAt P id s Q) (starts (Q ++ (changes id (some s) ∷ P)))
-start-placed P [] id s = Memᴰ·append-right (map (withEvent (changes id (some s))) (starts P)) (List·Memᴰ·head refl)
+start-placed P [] id s = Memᴰ·append-right (map (withEvent (changes id (some s))) (inTurn (changes id (some s)) (starts P))) (List·Memᴰ·head refl)
 start-placed P (x ∷ Q) id s =
-    Memᴰ·append-left (placed (startIn x) (x ∷ Q ++ (changes id (some s) ∷ P))) (Memᴰ·map (withEvent x) (start-placed P Q id s))
+    Memᴰ·append-left (placed (startIn x) (x ∷ Q ++ (changes id (some s) ∷ P)))
+    (Memᴰ·map (withEvent x) (mem-turned x (starts (Q ++ (changes id (some s) ∷ P))) (start-placed P Q id s)))
 
 -- a start that fires in e is in the list that demand 3 asks for
 pub fires-listed : (k : Chain) (P Q : List Event) (id : ℕ) (s : Start) (e : Event) (l : List Placed) → sameChain k (chainFor (s .mode)) ≡ true
@@ -232,23 +250,49 @@ clock-moves-no-tick d g = refl
 
 -- ---- 7. On the words: what an accepted tick writes to its list.
 
--- An accepted tick lists a start for n ticks, after which there were n - 1 ticks and nothing that ends it. The list that it was lent now
--- begins with entries among which is the start's: its id, routine and data.
+-- the list that a call was lent now begins with entries among which is this one: id, routine and data
+abbrev pub Lists : List ℕ → Call → List ℕ → ℕ → ℕ → ℕ → Type 0
+Lists w c list timer r u =
+    (fired : List Fired) × Begins (outcome w c .list) list fired × List·Memᴰ (record { id = timer; routine = r; userData = u }) fired
+
+listed-at-tick : (w : List ℕ) (n t : ℕ) → outcome w (layOut n t) .status ≡ 0 → (xs : List Call) (list : List ℕ) (P Q : List Event) (id : ℕ) (s : Start)
+    → sameChain ByTicks (chainFor (s .mode)) ≡ true → outcome (after w (layOut n t ∷ xs)) (tick list) .status ≡ 0
+    → eventsAfter w (layOut n t ∷ xs) ≡ Q ++ (changes id (some s) ∷ P) → fires oneTick (startAt P id s Q) ≡ true
+    → Lists (after w (layOut n t ∷ xs)) (tick list) list (s .id) (s .routine) (s .userData)
+listed-at-tick w n t ok xs list P Q id s ticking accepted is now =
+    let a = demand3 w n t ok (xs ++ (tick list ∷ [])) .answers xs [] (tick list) refl .lists accepted in (
+      map entry (a .ticking ++ a .dated),
+      a .entries,
+      Memᴰ·map entry (Memᴰ·append-left (a .dated) (fires-listed ByTicks P Q id s oneTick (a .ticking) ticking now
+          (subst (λ (es : List Event). InOrder ticksLeftOrDate (keep (inChain ByTicks) (keep (fires oneTick) (starts es))) (a .ticking)) is (a .ticking-order)))),
+    )
+
+-- An accepted tick lists a start for n ticks, after which there were n - 1 ticks and nothing that ends it.
 pub tick-lists : (w : List ℕ) (n t : ℕ) → outcome w (layOut n t) .status ≡ 0 → (xs : List Call) (list : List ℕ) (P Q : List Event) (id timer k r u : ℕ)
     → outcome (after w (layOut n t ∷ xs)) (tick list) .status ≡ 0
     → eventsAfter w (layOut n t ∷ xs) ≡ Q ++ (changes id (some (forTicks timer k r u)) ∷ P) → any (ends timer) Q ≡ false → suc (ticks Q) ≡ k
-    → (fired : List Fired) × Begins (outcome (after w (layOut n t ∷ xs)) (tick list) .list) list fired
-    × List·Memᴰ (record { id = timer; routine = r; userData = u }) fired
+    → Lists (after w (layOut n t ∷ xs)) (tick list) list timer r u
 tick-lists w n t ok xs list P Q id timer k r u accepted is quiet nth =
-    let a = demand3 w n t ok (xs ++ (tick list ∷ [])) .answers xs [] (tick list) refl .lists accepted in
-    let s = forTicks timer k r u in
-    let now : fires oneTick (startAt P id s Q) ≡ true =
-    at-nth-tick P Q id timer k r u (omega arith) oneTick ∙ ap₂ (λ (a b : Bool). not a && b) quiet (eq-eqb (suc (ticks Q)) k nth) in (
-      map entry (a .ticking ++ a .dated),
-      a .entries,
-      Memᴰ·map entry (Memᴰ·append-left (a .dated) (fires-listed ByTicks P Q id s oneTick (a .ticking) refl now
-          (subst (λ (es : List Event). InOrder ticksLeftOrDate (keep (inChain ByTicks) (keep (fires oneTick) (starts es))) (a .ticking)) is (a .ticking-order)))),
-    )
+    listed-at-tick w n t ok xs list P Q id (forTicks timer k r u) refl accepted is
+    (at-nth-tick P Q id timer k r u (omega arith) oneTick ∙ ap₂ (λ (a b : Bool). not a && b) quiet (eq-eqb (suc (ticks Q)) k nth))
+
+-- It lists a periodic start for n wherever the ticks since that start are with it m times n, for each m, and nothing ended it; and a periodic start
+-- fires nowhere else.
+pub multiple-lists : (w : List ℕ) (n t : ℕ) → outcome w (layOut n t) .status ≡ 0 → (xs : List Call) (list : List ℕ) (P Q : List Event)
+    (id timer k r u m : ℕ) → outcome (after w (layOut n t ∷ xs)) (tick list) .status ≡ 0
+    → eventsAfter w (layOut n t ∷ xs) ≡ Q ++ (changes id (some (startOf timer Every k r u)) ∷ P) → any (ends timer) Q ≡ false → suc (ticks Q) ≡ m * k
+    → Lists (after w (layOut n t ∷ xs)) (tick list) list timer r u
+multiple-lists w n t ok xs list P Q id timer k r u m accepted is quiet multiple =
+    listed-at-tick w n t ok xs list P Q id (startOf timer Every k r u) refl accepted is
+    (at-every-nth P Q id timer k r u oneTick
+    ∙ ap₂ (λ (a b : Bool). not a && b) quiet (eq-eqb (suc (ticks Q) % k) 0 (ap (λ (j : ℕ). j % k) multiple ∙ mul-mod-left m k)))
+
+pub only-multiples : (P Q : List Event) (id timer k r u : ℕ) (e : Event) → fires e (startAt P id (startOf timer Every k r u) Q) ≡ true
+    → (isTick e ≡ true) × ((m : ℕ) × (suc (ticks Q) ≡ m * k))
+only-multiples P Q id timer k r u e now =
+    let tick = both (isTick e) (eqb (suc (ticks Q) % k) 0) (both (not (any (ends timer) Q)) (isTick e && eqb (suc (ticks Q) % k) 0) (sym (at-every-nth P Q id timer k r u e) ∙ now) .1) in
+    let rest = eqb-true (suc (ticks Q) % k) 0 (tick .1) in
+    (tick .0, (suc (ticks Q) / k, sym (div-add-mod' (suc (ticks Q)) k) ∙ ap (λ (j : ℕ). suc (ticks Q) / k * k + j) rest ∙ add-zero _))
 
 -- An accepted tick or set clock that leaves the clock at or past a date lists a start for that date, where none before it did so and nothing
 -- ended it.
@@ -272,7 +316,7 @@ date-lists w n t ok xs c P Q id timer d r u accepted is quiet before moving ther
           (subst (λ (l : List Event). InOrder ticksLeftOrDate (keep (inChain ByDate) (keep (fires e) (starts l))) (a .dated)) is (a .dated-order)))),
     )
 
--- Each entry that any accepted call writes is that of a start that is due there, was not due before and was not ended.
+-- Each entry that any accepted call writes is that of a start that is due there and was not ended, and, unless it is periodic, was not due before.
 pub lists-only : (w : List ℕ) (n t : ℕ) → outcome w (layOut n t) .status ≡ 0 → (xs : List Call) (c : Call)
     → outcome (after w (layOut n t ∷ xs)) c .status ≡ 0 → (l : List Placed)
     × Begins (outcome (after w (layOut n t ∷ xs)) c .list) (lentTo c) (map entry l)
@@ -293,5 +337,8 @@ pub set-clock-keeps-ticks : (t : List ℕ) → sound t ≡ true → (w : WallTim
 set-clock-keeps-ticks t ok w list e =
     let z : statusOn t (setClock w list) ≡ 0 = sym (outcome-status t (setClock w list)) ∙ e in
     let s = effect (read t) (setClock w list) .state in
+    let clock = clockAt (read t .clock) (secondsOf w) 0 in
+    let now = withClock (read t) clock in
     ap (λ (o : Outcome). links ByTicks (o .table)) (outcome-accepted t (setClock w list) z)
     ∙ links-is (writtenOver s t) s (effect-holds t ok (setClock w list) z) ByTicks
+    ∙ fire-elsewhere ByDate (secondsOf w) now (chained-with-clock (read t) clock (sound-holds t ok .chained)) ByTicks (dated-not-again ByTicks) refl

@@ -145,7 +145,7 @@ module _ (t : List ℕ) (i : ℕ) (ok : slotSound t i ≡ true) where
       let kind = kindOf t i in
       let zeros = eqb (intervalOf t i) 0 ∷ eqb (routineOf t i) 0 ∷ eqb (dataOf t i) 0 ∷ [] in
       record {
-        kinds = leb-true kind 5 (slot-test 0);
+        kinds = leb-true kind 7 (slot-test 0);
         nameless = λ e. eqb-true (nameOf t i) 0 (or-else (not (eqb kind 0)) (eqb (nameOf t i) 0) (slot-test 1) (ap not (eq-eqb kind 0 e)));
         named = λ p. ltb-true 0 (nameOf t i) (or-else (eqb kind 0) (ltb 0 (nameOf t i)) (slot-test 2) (ne-eqb kind 0 (λ e. omega arith)));
         blank = λ p.

@@ -1,22 +1,25 @@
 -- The parts of the calls' work keep the chains in order. One chain over the slots is `Ordered`; each part is shown to keep that of any chain,
 -- and a state with one chain replaced is `Chained` when each of its chains is ordered over its slots. Assumes nothing.
 use mathlib.Core.Path.{_≡_, refl, sym, ap, _∙_, subst}
-use Prim.Native.Nat.{ℕ, _+_, _-_, _≤_, _<_}
+use Prim.Native.Nat.{ℕ, suc, _+_, _-_, _≤_, _<_}
 use native.Mathlib.Omega.{arith}
 use mathlib.Core.Bool.{Bool, true, false, cond, not}
 use mathlib.Core.List.{List, [], _∷_, map}
 use lib.ListN.{length, replicate, length-replicate}
 use lib.Dec.{leb, ltb, eqb}
-use borrow.Author.Tests.{eqb-false, eq-eqb, ne-eqb, not-true}
+use borrow.Author.Tests.{eqb-true, eqb-false, eq-eqb, ne-eqb, not-true}
 use Rattle.model.specs.Lists.{keep, place, All, Sorted}
-use Rattle.model.specs.Kinds.{Chain, ByTicks, ByDate, Mode, chainFor, sameChain, waitsIn}
+use Rattle.model.specs.Kinds.{Chain, ByTicks, ByDate, Mode, kindAt, chainFor, sameChain, waitsIn}
 use Rattle.model.specs.State.{Slot, Link, Clock, State, chainOf, withChain, withClock, free, slotAt, putAt, without}
-use Rattle.model.specs.Directives.{laidOut, stored, stopped, intervalIn, waitingAs, started, firedAll, due, fire, closer, nearer}
-use Rattle.model.proofs.ListLaws.{cases, clash, all-map, all-keep, all-passed, all-zip, all-place, all-mapped, sorted-place, not-leb, count-place, any-some, any-none, sorted-keep, count-parts}
-use Rattle.model.proofs.Slots.{at-same, at-other, length-put, put-at, blank, memo-firedAll, length-firedAll}
+use Rattle.model.specs.Directives.{laidOut, stored, stopped, intervalIn, waitingAs, started, fired, firedAll, due, off, fire, closer, nearer}
+use Rattle.model.proofs.ListLaws.{cases, all, all-map, keep-on, keep-none, map-on, all-keep, all-passed, all-zip, all-place, all-mapped, sorted-place, not-leb, count-place, any-some, any-none, sorted-keep, count-parts}
+use Rattle.model.proofs.Slots.{at-same, at-other, length-put, put-at, blank, memo, memo-firedAll, length-firedAll}
 use Rattle.model.proofs.WellFormed.{timesIn, Within, Fits, Chained}
-use Rattle.model.proofs.Chains.{times-closer, times-without, times-other, without-none, once, once-apart}
-use Rattle.model.proofs.KindLaws.{own-chain, each-chain, fired-not-in, mode-in}
+use Rattle.model.proofs.Chains.{times-closer, times-without, times-other, without-none, met, once, once-apart}
+use Rattle.model.proofs.KindLaws.{own-chain, each-chain, mode-in}
+use Rattle.model.proofs.Order.{orderOn, all-orderOn, sorted-orderOn, count-orderOn}
+pub use Rattle.model.proofs.GoingBack.{with-chain-slots, with-chain-clock, with-chain-own, with-chain-apart}
+use Rattle.model.proofs.GoingBack.{goesTo, again, backIn, goBack-slots, goBack-clock, goBack-chain}
 use Rattle.model.proofs.FiredSlots.{among, at-firedAll}
 
 sorted-closer : (l : List Link) → Sorted (λ w. w .wait) l → Sorted (λ w. w .wait) (map closer l)
@@ -39,35 +42,16 @@ chained : (s : State) → length (s .slots) ≤ 255 → ((k : Chain) → Ordered
 chained s few o = record { few = few; meets = λ k. o k .meets; rises = λ k. o k .rises; within = λ k. o k .within }
 
 module _ (s : State) (slots : List Slot) (l : List Link) where
-  -- what is read of a state with one chain replaced
-  pub with-chain-slots : (k : Chain) → withChain k s slots l .slots ≡ slots
-  with-chain-slots ByTicks = refl
-  with-chain-slots ByDate = refl
-
-  pub with-chain-clock : (k : Chain) → withChain k s slots l .clock ≡ s .clock
-  with-chain-clock ByTicks = refl
-  with-chain-clock ByDate = refl
-
-  pub with-chain-own : (k : Chain) → chainOf k (withChain k s slots l) ≡ l
-  with-chain-own ByTicks = refl
-  with-chain-own ByDate = refl
-
-  pub with-chain-apart : (k j : Chain) → sameChain j k ≡ false → chainOf j (withChain k s slots l) ≡ chainOf j s
-  with-chain-apart ByTicks ByTicks e = clash e
-  with-chain-apart ByTicks ByDate e = refl
-  with-chain-apart ByDate ByTicks e = refl
-  with-chain-apart ByDate ByDate e = clash e
-
   -- what holds of every chain of it
   pub with-chain-each : (P : Chain → List Link → Type 0) (k : Chain) → P k l → ((j : Chain) → sameChain j k ≡ false → P j (chainOf j s))
       → (j : Chain) → P j (chainOf j (withChain k s slots l))
   with-chain-each P k own rest =
-      each-chain (λ j. P j (chainOf j (withChain k s slots l))) k (rw (with-chain-own k) own) (λ j e. rw (with-chain-apart k j e) (rest j e))
+      each-chain (λ j. P j (chainOf j (withChain k s slots l))) k (rw (with-chain-own s slots l k) own) (λ j e. rw (with-chain-apart s slots l k j e) (rest j e))
 
   chained-with-chain : (k : Chain) → length slots ≤ 255 → Ordered k slots l → ((j : Chain) → sameChain j k ≡ false → Ordered j slots (chainOf j s))
       → Chained (withChain k s slots l)
   chained-with-chain k few own rest =
-      chained (withChain k s slots l) (rw (with-chain-slots k) few) (rw (with-chain-slots k) (with-chain-each (λ j. Ordered j slots) k own rest))
+      chained (withChain k s slots l) (rw (with-chain-slots s slots l k) few) (rw (with-chain-slots s slots l k) (with-chain-each (λ j. Ordered j slots) k own rest))
 
 -- ---- what keeps one chain in order
 
@@ -111,18 +95,67 @@ module _ (k : Chain) (slots : List Slot) (l : List Link) (h : Ordered k slots l)
   ordered-put i x low high e f =
       subst (Ordered k (putAt slots i x)) (without-none i l (h .meets i ∙ ap (λ (b : Bool). cond b 1 0) e)) (ordered-cut i x low high f)
 
-  -- the timers of ws fire; the links of l that are left are the rest
+  -- the timers of ws fire; the links of l that are left are the rest, and some of ws go back among them
   ordered-fired : (ws rest : List Link) → ((j : ℕ) → timesIn ws j ≤ 1)
       → ((j : ℕ) → among ws j ≡ true → timesIn rest j ≡ 0) → ((j : ℕ) → among ws j ≡ false → timesIn rest j ≡ timesIn l j)
-      → Sorted (λ w. w .wait) rest → All (Fits k slots) rest → Ordered k (firedAll ws slots) rest
+      → Sorted (λ w. w .wait) rest → All (Fits k slots) rest
+      → Ordered k (firedAll ws slots) (orderOn (λ w. w .wait) rest (backIn k (firedAll ws slots) ws))
   ordered-fired ws rest one gone stays r b = record {
     meets = λ j.
+        let back = backIn k fs ws in
+        let sum = count-orderOn (λ w. eqb (w .slot) j) (λ w. w .wait) rest back in
         cases (among ws j)
-        (λ e. rw (at-firedAll ws slots j (one j), e) (gone j e ∙ ap (λ (b : Bool). cond b 1 0) (sym (fired-not-in k (slotAt slots j .kind)))))
-        (λ e. rw (at-firedAll ws slots j (one j), e) (stays j e ∙ h .meets j));
-    rises = r;
-    within = all-map (λ w p. subst (Within k (w .wait)) (sym (ap (λ m. m .interval) (memo-firedAll ws slots (w .slot)))) p) rest b;
+        (λ e.
+        let some = any-some (λ w. eqb (w .slot) j) ws e in
+        omega (arith, sum, times-back j, gone j e, one j, both-ways (waitsIn k (slotAt fs j .kind)) (timesIn ws j) (one j) some))
+        (λ e.
+        let none = any-none (λ w. eqb (w .slot) j) ws e in
+        let same : slotAt fs j ≡ slotAt slots j = at-firedAll ws slots j (one j) ∙ rw e in
+        omega (
+          arith,
+          sum,
+          times-back j,
+          stays j e,
+          h .meets j,
+          neither (waitsIn k (slotAt fs j .kind)) (timesIn ws j) none,
+          ap {B = ℕ} (λ (x : Slot). cond (waitsIn k (x .kind)) 1 0) same,
+        ));
+    rises = sorted-orderOn (λ w. w .wait) rest (backIn k fs ws) r;
+    within = all-orderOn (Fits k fs) (λ w. w .wait) rest (backIn k fs ws)
+        (all-map (λ w p. subst (Within k (w .wait)) (sym (ap (λ m. m .interval) (memo-firedAll ws slots (w .slot)))) p) rest b)
+        (all-mapped (again fs) (Fits k fs) (keep (goesTo k fs) ws) (all (λ w. own-interval k (slotAt fs (w .slot) .interval)) (keep (goesTo k fs) ws)));
   }
+    where
+      fs : List Slot
+      fs = firedAll ws slots
+
+      own-interval : (k : Chain) (n : ℕ) → Within k n n
+      own-interval ByTicks n = omega arith
+      own-interval ByDate n = tt
+
+      -- slot j goes back as often as it is among ws, if it does
+      times-back : (j : ℕ) → timesIn (backIn k fs ws) j ≡ cond (waitsIn k (slotAt fs j .kind)) (timesIn ws j) 0
+      times-back j = go ws
+        where
+          go : (us : List Link) → timesIn (backIn k fs us) j ≡ cond (waitsIn k (slotAt fs j .kind)) (timesIn us j) 0
+          go [] = cases (waitsIn k (slotAt fs j .kind)) (λ e. rw e) (λ e. rw e)
+          go (w ∷ us) =
+              cases (eqb (w .slot) j)
+              (λ e.
+              let is = eqb-true (w .slot) j e in
+              let here : goesTo k fs w ≡ waitsIn k (slotAt fs j .kind) = ap (λ (i : ℕ). waitsIn k (slotAt fs i .kind)) is in
+              cases (waitsIn k (slotAt fs j .kind))
+              (λ f. let ih : timesIn (backIn k fs us) j ≡ timesIn us j = rw f at (go us) in rw (here ∙ f, e, f) (ap suc ih))
+              (λ f. let ih : timesIn (backIn k fs us) j ≡ 0 = rw f at (go us) in rw (here ∙ f, e, f) ih))
+              (λ e. cases (goesTo k fs w) (λ g. rw (g, e) (go us)) (λ g. rw (g, e) (go us)))
+
+      both-ways : (b : Bool) (n : ℕ) → n ≤ 1 → 0 < n → cond b n 0 ≡ cond b 1 0
+      both-ways true n p q = omega arith
+      both-ways false n p q = refl
+
+      neither : (b : Bool) (n : ℕ) → n ≡ 0 → cond b n 0 ≡ 0
+      neither true n e = e
+      neither false n e = refl
 
 ordered-nearer : (slots : List Slot) (l : List Link) → Ordered ByTicks slots l → Ordered ByTicks slots (map closer l)
 ordered-nearer slots l h = record {
@@ -190,31 +223,106 @@ with-clock-chain s c ByTicks = refl
 with-clock-chain s c ByDate = refl
 
 module _ (k : Chain) (limit : ℕ) (s : State) where
+  pub fire-slots : fire k limit s .slots ≡ firedAll (due k limit s) (s .slots)
+  fire-slots = goBack-slots (due k limit s) (off k limit s) ∙ with-chain-slots s (firedAll (due k limit s) (s .slots)) (keep (λ w. ltb limit (w .wait)) (chainOf k s)) k
+
+  pub memo-fire : (i : ℕ) → memo (slotAt (fire k limit s .slots) i) ≡ memo (slotAt (s .slots) i)
+  memo-fire i = ap (λ (sl : List Slot). memo (slotAt sl i)) fire-slots ∙ memo-firedAll (due k limit s) (s .slots) i
+
+  pub fire-clock : fire k limit s .clock ≡ s .clock
+  fire-clock = goBack-clock (due k limit s) (off k limit s) ∙ with-chain-clock s (firedAll (due k limit s) (s .slots)) (keep (λ w. ltb limit (w .wait)) (chainOf k s)) k
+
   pub length-fire : length (fire k limit s .slots) ≡ length (s .slots)
-  length-fire = simp (with-chain-slots, length-firedAll)
+  length-fire = ap length fire-slots ∙ length-firedAll (due k limit s) (s .slots)
+
+  -- each chain after they fired: what is left of it, and those that go back into it
+  pub fire-chain : (j : Chain) → chainOf j (fire k limit s)
+      ≡ orderOn (λ w. w .wait) (chainOf j (off k limit s)) (backIn j (firedAll (due k limit s) (s .slots)) (due k limit s))
+  fire-chain j =
+      goBack-chain (due k limit s) (off k limit s) j
+      ∙ rw (with-chain-slots s (firedAll (due k limit s) (s .slots)) (keep (λ w. ltb limit (w .wait)) (chainOf k s)) k)
 
   -- the timers that are due, and those that are not, are the chain
   due-parts : (j : ℕ) → timesIn (due k limit s) j + timesIn (keep (λ w. ltb limit (w .wait)) (chainOf k s)) j ≡ timesIn (chainOf k s) j
   due-parts j = count-parts (λ w. eqb (w .slot) j) (λ w. leb (w .wait) limit) (λ w. ltb limit (w .wait)) (λ w. not-leb (w .wait) limit) (chainOf k s)
 
   pub chained-fire : Chained s → Chained (fire k limit s)
-  chained-fire h =
-      let ws = due k limit s in
-      let later : Link → Bool = λ w. ltb limit (w .wait) in
-      let own = ordered s h k in
-      let one : (j : ℕ) → timesIn ws j ≤ 1 = λ j. omega (arith, due-parts j, once s h k j) in
-      chained-with-chain s (firedAll ws (s .slots)) (keep later (chainOf k s)) k
-      (omega (arith, length-firedAll ws (s .slots), h .few))
-      (ordered-fired k (s .slots) (chainOf k s) own ws (keep later (chainOf k s)) one
-      (λ j e. omega (arith, any-some (λ w. eqb (w .slot) j) ws e, due-parts j, once s h k j))
-      (λ j e. omega (arith, any-none (λ w. eqb (w .slot) j) ws e, due-parts j))
-      (sorted-keep (λ w. w .wait) later (chainOf k s) (own .rises))
-      (all-keep (Fits k (s .slots)) later (chainOf k s) (own .within)))
-      (λ o apart.
-      let rest = ordered s h o in
-      ordered-fired o (s .slots) (chainOf o s) rest ws (chainOf o s) one
-      (λ j e. omega (arith, any-some (λ w. eqb (w .slot) j) ws e, due-parts j, once-apart s h o k apart j))
-      (λ j e. refl) (rest .rises) (rest .within))
+  chained-fire h = chained (fire k limit s) (omega (arith, length-fire, h .few)) (λ j. rw (fire-slots, fire-chain j) (each j))
+    where
+      ws : List Link
+      ws = due k limit s
+
+      later : Link → Bool
+      later w = ltb limit (w .wait)
+
+      one : (j : ℕ) → timesIn ws j ≤ 1
+      one j = omega (arith, due-parts j, once s h k j)
+
+      each : (j : Chain) → Ordered j (firedAll ws (s .slots)) (orderOn (λ w. w .wait) (chainOf j (off k limit s)) (backIn j (firedAll ws (s .slots)) ws))
+      each = with-chain-each s (firedAll ws (s .slots)) (keep (λ w. ltb limit (w .wait)) (chainOf k s))
+          (λ j l. Ordered j (firedAll ws (s .slots)) (orderOn (λ w. w .wait) l (backIn j (firedAll ws (s .slots)) ws))) k
+          (let own = ordered s h k in
+          ordered-fired k (s .slots) (chainOf k s) own ws (keep later (chainOf k s)) one
+          (λ j e. omega (arith, any-some (λ w. eqb (w .slot) j) ws e, due-parts j, once s h k j))
+          (λ j e. omega (arith, any-none (λ w. eqb (w .slot) j) ws e, due-parts j))
+          (sorted-keep (λ w. w .wait) later (chainOf k s) (own .rises))
+          (all-keep (Fits k (s .slots)) later (chainOf k s) (own .within)))
+          (λ o apart.
+          let rest = ordered s h o in
+          ordered-fired o (s .slots) (chainOf o s) rest ws (chainOf o s) one
+          (λ j e. omega (arith, any-some (λ w. eqb (w .slot) j) ws e, due-parts j, once-apart s h o k apart j))
+          (λ j e. refl) (rest .rises) (rest .within))
+
+-- ---- which timers go back
+
+module _ (k : Chain) (limit : ℕ) (s : State) (h : Chained s) where
+  abbrev firing : List Link
+  firing = due k limit s
+
+  in-kinds : All (λ w. waitsIn k (slotAt (s .slots) (w .slot) .kind) ≡ true) (chainOf k s)
+  in-kinds = all-map (λ w p. in-kind (waitsIn k (slotAt (s .slots) (w .slot) .kind)) (omega (arith, p, h .meets k (w .slot)))) (chainOf k s) (met [] (chainOf k s))
+    where
+      in-kind : (b : Bool) → 0 < cond b 1 0 → b ≡ true
+      in-kind true p = refl
+      in-kind false p = absurd (omega arith)
+
+  -- each that fires has the kind of one that fired
+  goes-fired : (j : Chain) → All (λ w. goesTo j (firedAll firing (s .slots)) w ≡ waitsIn j (kindAt (slotAt (s .slots) (w .slot) .kind) .whenFired)) firing
+  goes-fired j = all-map (λ w p.
+      let a = cases (among firing (w .slot)) (λ e. e) (λ e. absurd (omega (arith, any-none (λ y. eqb (y .slot) (w .slot)) firing e))) in
+      let x = slotAt (s .slots) (w .slot) in
+      ap (λ (y : Slot). waitsIn j (y .kind))
+      (at-firedAll firing (s .slots) (w .slot) (omega (arith, due-parts k limit s (w .slot), once s h k (w .slot))) ∙ ap (λ (b : Bool). cond b (fired x) x) a))
+      firing (met [] firing)
+
+  -- those that go back into chain j, by the kinds that they had
+  pub back-is : (j : Chain) → backIn j (firedAll firing (s .slots)) firing
+      ≡ map (again (s .slots)) (keep (λ w. waitsIn j (kindAt (slotAt (s .slots) (w .slot) .kind) .whenFired)) firing)
+  back-is j =
+      let goes : Link → Bool = λ w. waitsIn j (kindAt (slotAt (s .slots) (w .slot) .kind) .whenFired) in
+      ap (map (again (firedAll firing (s .slots)))) (keep-on (goesTo j (firedAll firing (s .slots))) goes firing (goes-fired j))
+      ∙ map-on (again (firedAll firing (s .slots))) (again (s .slots)) (keep goes firing)
+      (all (λ w. ap {B = Link} (λ (n : ℕ). record { slot = w .slot; wait = n }) (ap (λ m. m .interval) (memo-firedAll firing (s .slots) (w .slot)))) (keep goes firing))
+
+  pub back-kinds : All (λ w. waitsIn k (slotAt (s .slots) (w .slot) .kind) ≡ true) firing
+  back-kinds = all-keep (λ w. waitsIn k (slotAt (s .slots) (w .slot) .kind) ≡ true) (λ w. leb (w .wait) limit) (chainOf k s) in-kinds
+
+  -- none goes back into chain j where no kind of chain k does
+  module _ (j : Chain) (never : (n : ℕ) → waitsIn k n ≡ true → waitsIn j (kindAt n .whenFired) ≡ false) where
+    pub none-back : backIn j (firedAll firing (s .slots)) firing ≡ []
+    none-back =
+        let goes : Link → Bool = λ w. waitsIn j (kindAt (slotAt (s .slots) (w .slot) .kind) .whenFired) in
+        back-is j ∙ ap (map (again (s .slots))) (keep-none goes firing (all-map (λ w p. never (slotAt (s .slots) (w .slot) .kind) p) firing back-kinds))
+
+    stays-off : chainOf j (fire k limit s) ≡ chainOf j (off k limit s)
+    stays-off = fire-chain k limit s j ∙ ap (orderOn (λ w. w .wait) (chainOf j (off k limit s))) none-back
+
+    pub fire-elsewhere : sameChain j k ≡ false → chainOf j (fire k limit s) ≡ chainOf j s
+    fire-elsewhere e = stays-off ∙ with-chain-apart s (firedAll firing (s .slots)) (keep (λ w. ltb limit (w .wait)) (chainOf k s)) k j e
+
+  pub fire-own : ((n : ℕ) → waitsIn k n ≡ true → waitsIn k (kindAt n .whenFired) ≡ false)
+      → chainOf k (fire k limit s) ≡ keep (λ w. ltb limit (w .wait)) (chainOf k s)
+  fire-own never = stays-off k never ∙ with-chain-own s (firedAll firing (s .slots)) (keep (λ w. ltb limit (w .wait)) (chainOf k s)) k
 
 pub chained-nearer : (s : State) → Chained s → Chained (nearer s)
 chained-nearer s h =

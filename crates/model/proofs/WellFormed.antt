@@ -33,7 +33,7 @@ pub record Chained (s : State) : Type 0 where
 
 -- the words of one slot, links and wait apart
 pub record Shape (x : Slot) : Type 0 where
-  pub kinds : x .kind ≤ 5
+  pub kinds : x .kind ≤ 7
   pub nameless : x .kind ≡ 0 → x .name ≡ 0
   pub named : 0 < x .kind → 0 < x .name
   pub blank : x .kind ≤ 1 → (x .interval ≡ 0) × (x .routine ≡ 0) × (x .userData ≡ 0)

@@ -1,4 +1,4 @@
--- The calls with their arguments, in document 01's order. A list that is lent to a call comes with its words.
+-- The calls with their arguments, in document 01's order, document 02's beside those that they are like. A list that is lent to a call comes with its words.
 -- Assumes nothing: these are definitions.
 use Prim.Native.Nat.{ℕ}
 use mathlib.Core.Bool.{Bool, cond}
@@ -18,6 +18,7 @@ pub data Call : Type 0 where
   -- id, ticks or wall time, routine, data
   fireAfter : ℕ → ℕ → ℕ → ℕ → Call
   fireWhen : ℕ → WallTime → ℕ → ℕ → Call
+  fireEvery : ℕ → ℕ → ℕ → ℕ → Call
   -- id
   reset : ℕ → Call
   ticksLeft : ℕ → Call
@@ -26,7 +27,7 @@ pub data Call : Type 0 where
   setClock : WallTime → List ℕ → Call
   getClock : Call
 
--- the calls' numbers, by the list that opens document 01
+-- the calls' numbers: from 1 by the list that opens document 01, then by document 02, item 8
 abbrev pub callNumber : Call → ℕ
 callNumber (layOut n t) = 1
 callNumber (create name) = 2
@@ -40,6 +41,7 @@ callNumber (ticksLeft id) = 9
 callNumber (tick list) = 10
 callNumber (setClock w list) = 11
 callNumber getClock = 12
+callNumber (fireEvery id n r u) = 13
 
 -- lay out takes any slice of words, where every other call wants a sound table
 abbrev pub isLayOut : Call → Bool
@@ -54,6 +56,7 @@ lentTo (cancel id) = []
 lentTo (delete id) = []
 lentTo (fireAfter id n r u) = []
 lentTo (fireWhen id w r u) = []
+lentTo (fireEvery id n r u) = []
 lentTo (reset id) = []
 lentTo (ticksLeft id) = []
 lentTo (tick list) = list

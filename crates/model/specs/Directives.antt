@@ -2,6 +2,7 @@
 -- Assumes nothing: these are definitions.
 use Prim.Native.Nat.{ℕ, suc, _+_, _-_, _*_}
 use mathlib.Core.Bool.{Bool, true, false, cond, not, _&&_}
+use mathlib.Core.Option.{Option, none, some}
 use mathlib.Core.List.{List, [], _∷_, _++_, map}
 use lib.ListN.{length, replicate}
 use lib.Dec.{leb, ltb, eqb}
@@ -9,8 +10,8 @@ use Rattle.calendar.specs.declared.WallTime.{WallTime}
 use Rattle.calendar.specs.Calendar.{allOf, valid, secondsOf, lastSecond, dateOf}
 use Rattle.model.specs.Lists.{keep, place}
 use Rattle.model.specs.Status.{Refusal, when, InvalidName, InvalidId, TooMany, InvalidSize, InvalidAddress, InvalidNumber, NotDefined, InvalidClock, NotSound, ListTooShort}
-use Rattle.model.specs.Calls.{Call, layOut, create, ident, cancel, delete, fireAfter, fireWhen, reset, ticksLeft, tick, setClock, getClock}
-use Rattle.model.specs.Kinds.{Chain, ByTicks, ByDate, Mode, After, When, kindAt, chainFor, waitingKind, lastByTicks, lastMode}
+use Rattle.model.specs.Calls.{Call, layOut, create, ident, cancel, delete, fireAfter, fireWhen, fireEvery, reset, ticksLeft, tick, setClock, getClock}
+use Rattle.model.specs.Kinds.{Chain, ByTicks, ByDate, Mode, After, When, Every, kindAt, chainFor, waitingKind, lastByTicks, lastMode}
 use Rattle.model.specs.Sound.{sound}
 use Rattle.model.specs.State.{Slot, Link, Clock, State, chainOf, withChain, withClock, free, slotAt, putAt, lowest, without, waitAt, idBase, indexOf, names}
 
@@ -40,6 +41,10 @@ unsound t = when NotSound (not (sound t))
 
 abbrev pub noSuchId : State → ℕ → Refusal
 noSuchId s id = when InvalidId (not (names s id))
+
+-- the rules of a start for ticks: 10, 9, 4
+abbrev pub startRules : State → ℕ → ℕ → ℕ → List Refusal
+startRules s id n r = when InvalidNumber (eqb n 0) ∷ when InvalidAddress (eqb r 0) ∷ noSuchId s id ∷ []
 
 -- ---- the parts of the calls' work
 
@@ -86,12 +91,12 @@ abbrev pub waitingAs : Mode → Slot → ℕ → ℕ → ℕ → Slot
 waitingAs m x amount routine userData =
     record { kind = waitingKind m; name = x .name; interval = intervalIn (chainFor m) amount; routine = routine; userData = userData }
 
--- Fire after, fire when: cancelled if waiting, then waits.
+-- Fire after, fire when, fire every: cancelled if waiting, then waits.
 abbrev pub started : Mode → State → ℕ → ℕ → ℕ → ℕ → State
 started m s i amount routine userData =
     inserted (chainFor m) (stopped s i (waitingAs m (slotAt (s .slots) i) amount routine userData)) i amount
 
--- A fired timer becomes idle of its kind.
+-- A fired timer becomes idle of its kind; a periodic one keeps its kind.
 abbrev pub fired : Slot → Slot
 fired x = became (kindAt (x .kind) .whenFired) x
 
@@ -99,12 +104,25 @@ abbrev pub firedAll : List Link → List Slot → List Slot
 firedAll [] slots = slots
 firedAll (w ∷ ws) slots = firedAll ws (putAt slots (w .slot) (fired (slotAt slots (w .slot))))
 
--- the timers of chain k at or before a number, in chain order; and the state after they fired
+-- where it is of a kind that waits it goes back for its interval, behind equals
+abbrev pub reinserted : Option Chain → State → ℕ → State
+reinserted none s i = s
+reinserted (some k) s i = inserted k s i (slotAt (s .slots) i .interval)
+
+abbrev pub goBack : List Link → State → State
+goBack [] s = s
+goBack (w ∷ ws) s = goBack ws (reinserted (kindAt (slotAt (s .slots) (w .slot) .kind) .chain) s (w .slot))
+
+-- the timers of chain k at or before a number, in chain order; and the state after they fired: all due timers come off first, then the
+-- periodic ones go back in that order
 abbrev pub due : Chain → ℕ → State → List Link
 due k limit s = keep (λ w. leb (w .wait) limit) (chainOf k s)
 
+abbrev pub off : Chain → ℕ → State → State
+off k limit s = withChain k s (firedAll (due k limit s) (s .slots)) (keep (λ w. ltb limit (w .wait)) (chainOf k s))
+
 abbrev pub fire : Chain → ℕ → State → State
-fire k limit s = withChain k s (firedAll (due k limit s) (s .slots)) (keep (λ w. ltb limit (w .wait)) (chainOf k s))
+fire k limit s = goBack (due k limit s) (off k limit s)
 
 -- Tick: every interval timer comes one tick nearer.
 abbrev pub closer : Link → Link
@@ -194,9 +212,8 @@ directive (delete id) = record {
   rules = λ w s. unsound w ∷ noSuchId s id ∷ [];
   does = λ s. leaves (stopped s (indexOf id) free) 0;
 }
--- 10, 9, 4
 directive (fireAfter id n r u) = record {
-  rules = λ w s. unsound w ∷ when InvalidNumber (eqb n 0) ∷ when InvalidAddress (eqb r 0) ∷ noSuchId s id ∷ [];
+  rules = λ w s. unsound w ∷ startRules s id n r;
   does = λ s. leaves (started After s (indexOf id) n r u) 0;
 }
 -- 11, 9, 20, 4
@@ -205,14 +222,19 @@ directive (fireWhen id d r u) = record {
       ∷ noSuchId s id ∷ [];
   does = λ s. leaves (started When s (indexOf id) (secondsOf d) r u) 0;
 }
--- Start again with the stored interval, routine and data, as fire after would. 4, 11
+-- Like fire after, but the timer fires every n ticks.
+directive (fireEvery id n r u) = record {
+  rules = λ w s. unsound w ∷ startRules s id n r;
+  does = λ s. leaves (started Every s (indexOf id) n r u) 0;
+}
+-- Start again with the stored interval, routine and data, as it was last started. 4, 11
 directive (reset id) = record {
   rules = λ w s. unsound w ∷ noSuchId s id ∷ when NotDefined (not (lastByTicks (slotAt (s .slots) (indexOf id) .kind))) ∷ [];
   does = λ s.
       let x = slotAt (s .slots) (indexOf id) in
       leaves (started (lastMode (x .kind)) s (indexOf id) (x .interval) (x .routine) (x .userData)) 0;
 }
--- For kind 4, which alone is in the interval chain; for any other kind 0.
+-- For kinds 4 and 6, which alone are in the interval chain; for any other kind 0.
 directive (ticksLeft id) = record {
   rules = λ w s. unsound w ∷ noSuchId s id ∷ [];
   does = λ s. leaves s (waitAt (indexOf id) (s .ticking));

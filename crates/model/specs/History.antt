@@ -1,14 +1,14 @@
--- Document 01, "The words of demand 3": what a list of accepted calls means, with no table in sight.
+-- Document 01, "The words of demand 3", and document 02, item 1: what a list of accepted calls means, with no table in sight.
 -- A list of events is read backwards, the latest first. Assumes nothing: these are definitions.
-use Prim.Native.Nat.{ℕ, suc, _+_, _-_, _*_, min}
+use Prim.Native.Nat.{ℕ, suc, _+_, _-_, _*_, _%_, min}
 use mathlib.Core.Bool.{Bool, true, false, cond, not, _&&_, _||_}
 use mathlib.Core.Option.{Option, none, some}
 use mathlib.Core.List.{List, [], _∷_, _++_, map}
 use lib.Dec.{leb, eqb}
 use Rattle.calendar.specs.Calendar.{secondsOf, lastSecond}
-use Rattle.model.specs.Lists.{any, count}
-use Rattle.model.specs.Calls.{Call, layOut, create, ident, cancel, delete, fireAfter, fireWhen, reset, ticksLeft, tick, setClock, getClock}
-use Rattle.model.specs.Kinds.{Chain, Mode, After, When, chainFor, sameChain}
+use Rattle.model.specs.Lists.{keep, any, count}
+use Rattle.model.specs.Calls.{Call, layOut, create, ident, cancel, delete, fireAfter, fireWhen, fireEvery, reset, ticksLeft, tick, setClock, getClock}
+use Rattle.model.specs.Kinds.{Chain, Mode, After, When, Every, chainFor, isPeriodic, sameChain}
 use Rattle.model.specs.State.{Fired}
 use Rattle.model.specs.Directives.{intervalIn}
 
@@ -56,7 +56,7 @@ lastStart id (oneTick ∷ before) = lastStart id before
 lastStart id (clockSetTo d ∷ before) = lastStart id before
 lastStart id (nothing ∷ before) = lastStart id before
 
--- A start is an accepted fire after, fire when or reset.
+-- A start is an accepted fire after, fire when, fire every or reset.
 abbrev pub eventOf : List Event → Call → Event
 eventOf before (layOut n t) = laidOutFor t
 eventOf before (create name) = nothing
@@ -65,6 +65,7 @@ eventOf before (cancel id) = changes id none
 eventOf before (delete id) = deletes id
 eventOf before (fireAfter id n r u) = changes id (some (startOf id After n r u))
 eventOf before (fireWhen id w r u) = changes id (some (startOf id When (secondsOf w) r u))
+eventOf before (fireEvery id n r u) = changes id (some (startOf id Every n r u))
 eventOf before (reset id) = changes id (lastStart id before)
 eventOf before (ticksLeft id) = nothing
 eventOf before (tick list) = oneTick
@@ -86,6 +87,7 @@ lastsAfter (cancel i) answer id before = before
 lastsAfter (delete i) answer id before = not (eqb i id) && before
 lastsAfter (fireAfter i n r u) answer id before = before
 lastsAfter (fireWhen i w r u) answer id before = before
+lastsAfter (fireEvery i n r u) answer id before = before
 lastsAfter (reset i) answer id before = before
 lastsAfter (ticksLeft i) answer id before = before
 lastsAfter (tick list) answer id before = before
@@ -156,15 +158,6 @@ pub record Placed : Type 0 where
 abbrev pub withEvent : Event → Placed → Placed
 withEvent e g = record { begun = g .begun; before = g .before; after = e ∷ g .after }
 
-abbrev pub placed : Option Start → List Event → List Placed
-placed none before = []
-placed (some s) before = record { begun = s; before = before; after = [] } ∷ []
-
--- every start of the events, in order
-abbrev pub starts : List Event → List Placed
-starts [] = []
-starts (e ∷ before) = map (withEvent e) (starts before) ++ placed (startIn e) (e ∷ before)
-
 -- An accepted cancel, reset, new start or delete of that timer or an accepted lay out ends a start early.
 abbrev pub ends : ℕ → Event → Bool
 ends id (laidOutFor t) = true
@@ -177,11 +170,13 @@ ends id nothing = false
 abbrev pub wasEnded : Placed → Bool
 wasEnded g = any (ends (g .begun .id)) (g .after)
 
--- A start for n ticks is due at the nth accepted tick after it; a start by date in the first accepted tick or set clock after it
--- that leaves the clock at or past the date. (It is due in the event e, which comes after `after`; the first, since it ends there.)
+-- A start for n ticks is due at the nth accepted tick after it, a periodic one at every nth; a start by date in the first accepted tick or
+-- set clock after it that leaves the clock at or past the date. (It is due in the event e, which comes after `after`; the first, since it ends
+-- there.)
 abbrev pub dueIn : Mode → ℕ → Event → List Event → List Event → Bool
 dueIn After n e before after = isTick e && eqb (suc (ticks after)) n
 dueIn When d e before after = movesClock e && past d (e ∷ after ++ before)
+dueIn Every n e before after = isTick e && eqb (suc (ticks after) % n) 0
 
 abbrev pub isDue : Event → Placed → Bool
 isDue e g = dueIn (g .begun .mode) (g .begun .amount) e (g .before) (g .after)
@@ -194,13 +189,30 @@ wasDueIn s before (e ∷ after) = dueIn (s .mode) (s .amount) e before after || 
 abbrev pub wasDue : Placed → Bool
 wasDue g = wasDueIn (g .begun) (g .before) (g .after)
 
--- Until it ends the timer is waiting, and at no other time.
+-- Until it ends the timer is waiting, and at no other time. A periodic one stays waiting.
 abbrev pub waits : Placed → Bool
-waits g = not (wasEnded g) && not (wasDue g)
+waits g = not (wasEnded g) && (isPeriodic (g .begun .mode) || not (wasDue g))
 
 -- it fires in the event e, next after all that follow it: it waits, and is due in e
 abbrev pub fires : Event → Placed → Bool
 fires e g = waits g && isDue e g
+
+-- Each going back of a periodic timer that fires counts as a start only for the order among equals: those that go back in e follow the others,
+-- in the order that they had.
+abbrev pub goesBack : Event → Placed → Bool
+goesBack e g = isPeriodic (g .begun .mode) && fires e g
+
+abbrev pub inTurn : Event → List Placed → List Placed
+inTurn e l = keep (λ g. not (goesBack e g)) l ++ keep (goesBack e) l
+
+abbrev pub placed : Option Start → List Event → List Placed
+placed none before = []
+placed (some s) before = record { begun = s; before = before; after = [] } ∷ []
+
+-- every start of the events, in the order that counts among equals
+abbrev pub starts : List Event → List Placed
+starts [] = []
+starts (e ∷ before) = map (withEvent e) (inTurn e (starts before)) ++ placed (startIn e) (e ∷ before)
 
 -- ---- firing order
 
@@ -212,6 +224,7 @@ inChain k g = sameChain k (chainFor (g .begun .mode))
 abbrev pub remaining : Mode → ℕ → ℕ → ℕ
 remaining After n ticksAfter = n - ticksAfter
 remaining When d ticksAfter = d
+remaining Every n ticksAfter = n - ticksAfter % n
 
 abbrev pub ticksLeftOrDate : Placed → ℕ
 ticksLeftOrDate g = remaining (g .begun .mode) (g .begun .amount) (ticks (g .after))

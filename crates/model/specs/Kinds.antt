@@ -1,4 +1,4 @@
--- Document 01, "Kinds", and the chains in which timers wait. Assumes nothing: these are definitions.
+-- Document 01, "Kinds", document 02, item 1, and the chains in which timers wait. Assumes nothing: these are definitions.
 use Prim.Native.Nat.{ℕ}
 use mathlib.Core.Bool.{Bool, true, false}
 use mathlib.Core.Option.{Option, none, some}
@@ -7,7 +7,7 @@ use lib.ListN.{getD}
 pub use Rattle.model.specs.declared.Chain.{Chain}
 pub use Rattle.model.specs.declared.Chain.the-variants.{ByTicks, ByDate}
 pub use Rattle.model.specs.declared.Mode.{Mode}
-pub use Rattle.model.specs.declared.Mode.the-variants.{After, When}
+pub use Rattle.model.specs.declared.Mode.the-variants.{After, When, Every}
 
 -- what a kind says of a timer: the chain that it is in, if any; its kind when it stops, and when it fires; how it was last started, if it was
 pub record Kind : Type 0 where
@@ -28,6 +28,8 @@ kinds =
     ∷ kindEntry none 2 2 (some After) ∷ kindEntry none 3 3 (some When)
     -- 4 waiting for ticks; 5 waiting for a date
     ∷ kindEntry (some ByTicks) 2 2 (some After) ∷ kindEntry (some ByDate) 3 3 (some When)
+    -- 6 waiting in the interval chain, periodic, where it still waits when it fired; 7 idle periodic
+    ∷ kindEntry (some ByTicks) 7 6 (some Every) ∷ kindEntry none 7 7 (some Every)
     ∷ []
 
 -- what a kind says; a number that is no kind is in no chain and stays
@@ -38,10 +40,18 @@ kindAt kind = getD kinds kind (kindEntry none kind kind none)
 abbrev pub chainFor : Mode → Chain
 chainFor After = ByTicks
 chainFor When = ByDate
+chainFor Every = ByTicks
 
 abbrev pub waitingKind : Mode → ℕ
 waitingKind After = 4
 waitingKind When = 5
+waitingKind Every = 6
+
+-- the start fires again and again
+abbrev pub isPeriodic : Mode → Bool
+isPeriodic After = false
+isPeriodic When = false
+isPeriodic Every = true
 
 -- the two chains are the same
 abbrev pub sameChain : Chain → Chain → Bool

@@ -28,11 +28,11 @@ unlinked t i = allOf (eqb (waitOf t i) 0 ∷ eqb (nextOf t i) 0 ∷ eqb (previou
 abbrev pub unstarted : List ℕ → ℕ → Bool
 unstarted t i = allOf (eqb (intervalOf t i) 0 ∷ eqb (routineOf t i) 0 ∷ eqb (dataOf t i) 0 ∷ [])
 
--- Every kind is 0 to 5. Kind 0: every other word zero. Kind 1: name not zero, the rest zero. Kinds 2 to 5: name and routine not zero.
--- Interval is 1 or more for 2 and 4, zero for 3 and 5. Those that wait in no chain have wait and links zero.
+-- Every kind is 0 to 7. Kind 0: every other word zero. Kind 1: name not zero, the rest zero. Kinds 2 to 7: name and routine not zero.
+-- Interval is 1 or more for 2, 4, 6 and 7, zero for 3 and 5. Those that wait in no chain have wait and links zero.
 abbrev pub slotTests : List ℕ → ℕ → ℕ → List Bool
 slotTests t i kind =
-    leb kind 5
+    leb kind 7
     ∷ (not (eqb kind 0) || eqb (nameOf t i) 0)
     ∷ (eqb kind 0 || ltb 0 (nameOf t i))
     ∷ (ltb 1 kind || unstarted t i)

@@ -21,7 +21,7 @@ abbrev pub first : List Link → ℕ
 first [] = 0
 first (w ∷ ws) = w .slot
 
--- The wait of a kind 4 slot is the ticks after the slot before it, that of a kind 5 slot its date.
+-- The wait of a kind 4 or 6 slot is the ticks after the slot before it, that of a kind 5 slot its date.
 abbrev pub difference : Chain → ℕ → ℕ → ℕ
 difference ByTicks before wait = wait - before
 difference ByDate before wait = wait

@@ -7,10 +7,11 @@ pub enum Chain {
     ByDate,
 }
 
-// How a timer is started: fire after, fire when.
+// How a timer is started: fire after, fire when, fire every.
 pub enum Mode {
     After,
     When,
+    Every,
 }
 
 // Why a call is refused: RTEMS's names, and two of our own. specs/Status.antt has their numbers.

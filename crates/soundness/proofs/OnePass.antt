@@ -2,6 +2,7 @@
 -- both walks must stand at 0. Assumes nothing.
 use Prim.Native.Nat.{ℕ, suc, _+_, _-_, _*_, _≤_, _<_}
 use mathlib.Core.Path.{_≡_, refl, sym, ap, ap₂, _∙_, subst}
+use mathlib.Core.Logic.{_≢_}
 use mathlib.Core.Bool.{Bool, true, false, cond, not, _&&_, and-false}
 use mathlib.Core.List.{List, _∷_}
 use native.Mathlib.Nat.{pos-of-ne-zero}
@@ -16,8 +17,8 @@ use Rattle.model.specs.declared.Chain.the-variants.{ByTicks, ByDate}
 use Rattle.model.specs.Kinds.{waitsIn}
 use Rattle.model.specs.Words.{word, headWord, along, slotCount, seconds, firstTicking, firstDated, kindOf, intervalOf, nextOf}
 use Rattle.model.specs.Sound.{headerSound, slotSound, chainSound, soundTests, sound}
-use Rattle.model.proofs.ListLaws.{cases, both, and-both, or-left, or-right, or-else, all-at, all-true, all-up, up-at}
-use Rattle.table.proofs.KindTests.{kindIn, is-in, not-in}
+use Rattle.model.proofs.ListLaws.{cases, clash, both, and-both, or-left, or-right, or-else, all-at, all-true, all-up, up-at}
+use Rattle.table.proofs.KindTests.{dated-is, ticking-not-dated}
 use Rattle.word_checks.specs.Tested.{slotTested}
 use Rattle.word_checks.proofs.BooleanTests.{same, fails}
 use Rattle.word_checks.proofs.HeaderTests.{header-ranges}
@@ -52,10 +53,10 @@ module _ (t : List ℕ) where
   whole k c w = walked t k ∙ and-both (chainSound k t) (waitsSound k t) c w
 
   -- the head of a chain is of its kind
-  head-kind : (k : Chain) → walk k t N (steps k) (start k t) ≡ true → 1 ≤ word t (headWord k) → kindOf t (word t (headWord k)) ≡ kindIn k
+  head-kind : (k : Chain) → walk k t N (steps k) (start k t) ≡ true → 1 ≤ word t (headWord k) → waitsIn k (kindOf t (word t (headWord k))) ≡ true
   head-kind k w h =
       let i = word t (headWord k) in
-      let all : All (λ j. (1 ≤ j) × (kindOf t j ≡ kindIn k)) (i ∷ along (nextOf t) 0 (nextOf t i)) =
+      let all : All (λ j. (1 ≤ j) × (waitsIn k (kindOf t j) ≡ true)) (i ∷ along (nextOf t) 0 (nextOf t i)) =
       rw (along-first (nextOf t) 0 i h) at (kinds t k (steps k) 1 (start k t) w) in
       all .0 .1
 
@@ -69,8 +70,9 @@ module _ (t : List ℕ) where
       (ap not (ne-eqb (firstTicking t) (firstDated t)
       (λ e.
       let low = pos-of-ne-zero (eqb-false (firstTicking t) 0 q) in
-      let five : kindOf t (firstTicking t) ≡ 5 = subst (λ (v : ℕ). kindOf t v ≡ 5) (sym e) (head-kind ByDate b (omega (arith, low, e))) in
-      omega (arith, head-kind ByTicks a low, five)))))
+      let dated : waitsIn ByDate (kindOf t (firstTicking t)) ≡ true =
+      subst (λ (v : ℕ). waitsIn ByDate (kindOf t v) ≡ true) (sym e) (head-kind ByDate b (omega (arith, low, e))) in
+      clash (sym dated ∙ ticking-not-dated (kindOf t (firstTicking t)) (head-kind ByTicks a low))))))
 
   tests-from : sound t ≡ true → tests ≡ true
   unfolding sound leftTested
@@ -96,7 +98,7 @@ module _ (t : List ℕ) where
       let slots : Slots t = λ j a b. up-at (slotTested t) 1 N (q .0) j a (omega arith) in
       let ticks = ticks-whole t (steps ByTicks) (start ByTicks t) slots (λ z. refl) (r .0) in
       let u = both (chainSound ByTicks t) (waitsSound ByTicks t) (sym (walked t ByTicks) ∙ ticks) in
-      let met : (j : ℕ) → 1 ≤ j → j ≤ N → kindOf t j ≡ 4 → 0 < times j (along (nextOf t) N (firstTicking t)) =
+      let met : (j : ℕ) → 1 ≤ j → j ≤ N → waitsIn ByTicks (kindOf t j) ≡ true → 0 < times j (along (nextOf t) N (firstTicking t)) =
       λ j a b k. omega (arith, met-once ByTicks t (u .0) j a b k) in
       let apart : Apart t =
       record {
@@ -161,13 +163,13 @@ module _ (t : List ℕ) (n : ℕ) (x y : Stand) where
       ∙ ap (λ (s : Bool). rest s (suc i) m (paid ByTicks i m (waitsIn ByTicks (kindOf t i))) (paid ByDate i m (waitsIn ByDate (kindOf t i)))) h
       ∙ ap₂ (λ (u v : Bool). rest true (suc i) m (paid ByTicks i m u) (paid ByDate i m v)) f g
 
-  tick : (i m : ℕ) (r : Bool) → slotTested t i ≡ true → kindOf t i ≡ 4 → stepTested ByTicks t n x ≡ r
+  tick : (i m : ℕ) (r : Bool) → slotTested t i ≡ true → waitsIn ByTicks (kindOf t i) ≡ true → stepTested ByTicks t n x ≡ r
       → leftTested t n i (suc m) x y
       ≡ (allUp (slotTested t) (suc i) m
       && ((r && walkTested ByTicks t n (waiting ByTicks t (suc i) m) (step ByTicks t x)) && walkTested ByDate t n (waiting ByDate t (suc i) m) y))
   unfolding walkTested
   tick i m r h f g =
-      at-kind i m true false h (is-in ByTicks (kindOf t i) f) (not-in ByDate (kindOf t i) (λ z. omega arith))
+      at-kind i m true false h f (ticking-not-dated (kindOf t i) f)
       ∙ ap (λ (b : Bool). allUp (slotTested t) (suc i) m
       && ((b && walkTested ByTicks t n (waiting ByTicks t (suc i) m) (step ByTicks t x)) && walkTested ByDate t n (waiting ByDate t (suc i) m) y)) g
 
@@ -177,7 +179,7 @@ module _ (t : List ℕ) (n : ℕ) (x y : Stand) where
       && (walkTested ByTicks t n (waiting ByTicks t (suc i) m) x && (r && walkTested ByDate t n (waiting ByDate t (suc i) m) (step ByDate t y))))
   unfolding walkTested
   date i m r h f g =
-      at-kind i m false true h (not-in ByTicks (kindOf t i) (λ z. omega arith)) (is-in ByDate (kindOf t i) f)
+      at-kind i m false true h (ap (waitsIn ByTicks) f) (ap (waitsIn ByDate) f)
       ∙ ap (λ (b : Bool). allUp (slotTested t) (suc i) m
       && (walkTested ByTicks t n (waiting ByTicks t (suc i) m) x && (b && walkTested ByDate t n (waiting ByDate t (suc i) m) (step ByDate t y)))) g
 
@@ -242,14 +244,14 @@ module _ {t : List ℕ} {n i : ℕ} {x y : Stand} (p : Passing t n i x y) where
     pub slot-fails : slotTested t i ≡ false → false ≡ sound t
     slot-fails h = sym (here ∙ slot-false t n x y i more h)
 
-    pub pass-other : slotTested t i ≡ true → (kindOf t i ≡ 4 → ⊥) → (kindOf t i ≡ 5 → ⊥) → Passing t n (i + 1) x y
+    pub pass-other : slotTested t i ≡ true → waitsIn ByTicks (kindOf t i) ≡ false → kindOf t i ≢ 5 → Passing t n (i + 1) x y
     unfolding leftTested
-    pass-other h f g = on x y (p .ticks) (here ∙ at-kind t n x y i more false false h (not-in ByTicks (kindOf t i) f) (not-in ByDate (kindOf t i) g))
+    pass-other h f g = on x y (p .ticks) (here ∙ at-kind t n x y i more false false h f (dated-is (kindOf t i) ∙ ne-eqb (kindOf t i) 5 g))
 
-    pub tick-fails : slotTested t i ≡ true → kindOf t i ≡ 4 → stepTested ByTicks t n x ≡ false → false ≡ sound t
+    pub tick-fails : slotTested t i ≡ true → waitsIn ByTicks (kindOf t i) ≡ true → stepTested ByTicks t n x ≡ false → false ≡ sound t
     tick-fails h f g = sym (here ∙ tick t n x y i more false h f g ∙ and-false (allUp (slotTested t) (suc i) more))
 
-    pub pass-tick : slotTested t i ≡ true → kindOf t i ≡ 4 → stepTested ByTicks t n x ≡ true → intervalOf t (x .slot) < 4294967296
+    pub pass-tick : slotTested t i ≡ true → waitsIn ByTicks (kindOf t i) ≡ true → stepTested ByTicks t n x ≡ true → intervalOf t (x .slot) < 4294967296
         → Passing t n (i + 1) (step ByTicks t x) y
     unfolding leftTested
     pass-tick h f g fits =

@@ -1,10 +1,10 @@
 -- What the pass and its walks do not test follows from what they test.
 --
--- The interval of kind 4: the walk meets every such slot, with ticks left from 1 up to the interval. The kind along the interval chain: of other
--- kinds only 2 has an interval, and there wait and previous are 0, so that it comes first, with no ticks left, or not at all. The kind along the
--- dated chain: kinds 0 to 3 have no wait, and a slot of kind 4 stands in the interval chain, so that its previous is of kind 4 or, at the head, 0;
--- the first one that the walk came to would come behind a slot of kind 5 or be the head of both chains. That no date is past the last second: dates
--- never fall, so that the last one, tested at the end, is the greatest. Assumes nothing.
+-- The interval of a slot that waits for ticks: the walk meets every such slot, with ticks left from 1 up to the interval. The kind along the interval
+-- chain: of other kinds only 2 and 7 have an interval, and there wait and previous are 0, so that the slot comes first, with no ticks left, or not at
+-- all. The kind along the dated chain: kinds that wait in no chain have no wait, and a slot that waits for ticks stands in the interval chain, so that
+-- its previous waits for ticks too or, at the head, is 0; the first one that the walk came to would come behind a slot of kind 5 or be the head of both
+-- chains. That no date is past the last second: dates never fall, so that the last one, tested at the end, is the greatest. Assumes nothing.
 use Prim.Native.Nat.{ℕ, zero, suc, _+_, _≤_, _<_}
 use mathlib.Core.Path.{_≡_, refl, sym, _∙_, subst}
 use mathlib.Core.Bool.{true, _||_}
@@ -17,10 +17,11 @@ use Rattle.calendar.specs.Calendar.{lastSecond}
 use Rattle.model.specs.Lists.{All}
 use Rattle.model.specs.declared.Chain.{Chain}
 use Rattle.model.specs.declared.Chain.the-variants.{ByTicks, ByDate}
+use Rattle.model.specs.Kinds.{waitsIn, linked, lastByTicks}
 use Rattle.model.specs.Words.{along, slotCount, firstTicking, firstDated, kindOf, intervalOf, waitOf, nextOf, previousOf}
 use Rattle.model.specs.Sound.{previousSound}
-use Rattle.model.proofs.ListLaws.{cases, both, and-both, or-right, or-else}
-use Rattle.table.proofs.KindTests.{kindIn}
+use Rattle.model.proofs.ListLaws.{cases, clash, both, and-both, or-right, or-else}
+use Rattle.table.proofs.KindTests.{timed-apart, ticking-not-dated, else-dated}
 use Rattle.word_checks.specs.Tested.{slotTested}
 use Rattle.word_checks.proofs.SlotTests.{tested}
 use Rattle.soundness.specs.Walks.{Stand, standing, linkTested, waitTested, stepTested, step, walkTested}
@@ -38,33 +39,32 @@ module _ (t : List ℕ) where
   Slots = (j : ℕ) → 1 ≤ j → j ≤ N → slotTested t j ≡ true
 
   -- what a step of a walk that tests everything says
-  in-step : (k : Chain) (x : Stand) → stepSound k t N x ≡ true → InChain t N (kindIn k) (x .slot) (x .before)
+  in-step : (k : Chain) (x : Stand) → stepSound k t N x ≡ true → InChain k t N (x .slot) (x .before)
   in-step k x e =
-      in-chain t N (kindIn k) (x .slot) (x .before)
-      (both (linkSound t N (kindIn k) (x .slot) (x .before)) (waitSound k t (x .slot) (x .reached)) e .0)
+      in-chain k t N (x .slot) (x .before)
+      (both (linkSound k t N (x .slot) (x .before)) (waitSound k t (x .slot) (x .reached)) e .0)
 
-  step-in : (k : Chain) (x : Stand) → InChain t N (kindIn k) (x .slot) (x .before) → waitSound k t (x .slot) (x .reached) ≡ true
+  step-in : (k : Chain) (x : Stand) → InChain k t N (x .slot) (x .before) → waitSound k t (x .slot) (x .reached) ≡ true
       → stepSound k t N x ≡ true
   step-in k x h w =
-      and-both (linkSound t N (kindIn k) (x .slot) (x .before)) (waitSound k t (x .slot) (x .reached))
-      (chain-in t N (kindIn k) (x .slot) (x .before) h) w
+      and-both (linkSound k t N (x .slot) (x .before)) (waitSound k t (x .slot) (x .reached))
+      (chain-in k t N (x .slot) (x .before) h) w
 
   -- ---- the interval chain
 
-  ticks-kind : (x : Stand) → Slots → (x .before ≡ 0 → x .reached ≡ 0) → InTicks t N x → kindOf t (x .slot) ≡ 4
+  ticks-kind : (x : Stand) → Slots → (x .before ≡ 0 → x .reached ≡ 0) → InTicks t N x → waitsIn ByTicks (kindOf t (x .slot)) ≡ true
   ticks-kind x slots b s =
       let i = x .slot in
       let z = tested t i (slots i (s .link .low) (s .link .high)) in
-      cases (eqb (kindOf t i) 4)
-      (λ q. eqb-true (kindOf t i) 4 q)
-      (λ q.
-      cases (eqb (kindOf t i) 2)
-      (λ r.
-      let two = eqb-true (kindOf t i) 2 r in
-      let a = z .alone (omega arith) in
+      cases (waitsIn ByTicks (kindOf t i))
+      (λ w. w)
+      (λ w.
+      cases (lastByTicks (kindOf t i))
+      (λ l.
+      let a = z .alone (timed-apart (kindOf t i) l w) in
       let none = b (sym (s .link .previous) ∙ a .1) in
       absurd (omega (arith, none, a .0, s .low)))
-      (λ r. absurd (omega (arith, z .noInterval (eqb-false (kindOf t i) 2 r) (eqb-false (kindOf t i) 4 q), s .low, s .high))))
+      (λ l. absurd (omega (arith, z .noInterval l, s .low, s .high))))
 
   pub ticks-whole : (c : ℕ) (x : Stand) → Slots → (x .before ≡ 0 → x .reached ≡ 0) → walkTested ByTicks t N c x ≡ true
       → walk ByTicks t N c x ≡ true
@@ -84,7 +84,7 @@ module _ (t : List ℕ) where
   ticks-tested zero x e = e
   ticks-tested (suc c) x e =
       let a = both (stepSound ByTicks t N x) (walk ByTicks t N c (step ByTicks t x)) e in
-      let w = both (linkSound t N 4 (x .slot) (x .before)) (waitSound ByTicks t (x .slot) (x .reached)) (a .0) in
+      let w = both (linkSound ByTicks t N (x .slot) (x .before)) (waitSound ByTicks t (x .slot) (x .reached)) (a .0) in
       let h = in-step ByTicks x (a .0) in
       and-both (stepTested ByTicks t N x) (walkTested ByTicks t N c (step ByTicks t x))
       (and-both (linkTested t N (x .slot) (x .before)) (waitTested ByTicks t (x .slot) (x .reached))
@@ -103,9 +103,9 @@ module _ (t : List ℕ) where
       rw (along-first (nextOf t) f (x .slot) (in-step k x (a .0) .link .low)) (g x (a .0), each k P g c f (step k t x) (a .1))
 
   pub kinds : (k : Chain) (c f : ℕ) (x : Stand) → walk k t N c x ≡ true
-      → All (λ j. (1 ≤ j) × (kindOf t j ≡ kindIn k)) (along (nextOf t) f (x .slot))
+      → All (λ j. (1 ≤ j) × (waitsIn k (kindOf t j) ≡ true)) (along (nextOf t) f (x .slot))
   kinds k c f x e =
-      each k (λ j. (1 ≤ j) × (kindOf t j ≡ kindIn k))
+      each k (λ j. (1 ≤ j) × (waitsIn k (kindOf t j) ≡ true))
       (λ y s.
       let h = in-step k y s in
       (h .link .low, h .kind))
@@ -116,7 +116,7 @@ module _ (t : List ℕ) where
       each ByTicks (λ j. 1 ≤ intervalOf t j)
       (λ y s.
       let left = y .reached + waitOf t (y .slot) in
-      let w = both (linkSound t N 4 (y .slot) (y .before)) (waitSound ByTicks t (y .slot) (y .reached)) s in
+      let w = both (linkSound ByTicks t N (y .slot) (y .before)) (waitSound ByTicks t (y .slot) (y .reached)) s in
       let b = both (leb 1 left) (leb left (intervalOf t (y .slot))) (w .1) in
       omega (arith, leb-true 1 left (b .0), leb-true left (intervalOf t (y .slot)) (b .1)))
       c f x e
@@ -141,10 +141,10 @@ module _ (t : List ℕ) where
       let n = leb-false 1 (intervalOf t j) q in
       absurd (omega (arith, m, none-times (λ i. 1 ≤ intervalOf t i) (along (nextOf t) f (x .slot)) j (intervals c f x e) (λ z. omega (arith, z, n)))))
 
-  -- ---- previous in the interval chain: a slot of kind 4, or 0 at the head
+  -- ---- previous in the interval chain: a slot that waits for ticks, or 0 at the head
 
   abbrev Ticking : ℕ → Type 0
-  Ticking j = (1 ≤ j) × (kindOf t j ≡ 4)
+  Ticking j = (1 ≤ j) × (waitsIn ByTicks (kindOf t j) ≡ true)
 
   later : (p : ℕ) (l : List ℕ) → Ticking p → previousSound t p l ≡ true → All Ticking l → (j : ℕ) → 0 < times j l → Ticking (previousOf t j)
   later p [] a e h j m = absurd (omega arith)
@@ -155,7 +155,7 @@ module _ (t : List ℕ) where
       (λ z. later y ys (h .0) (r .1) (h .1) j (rw z at m))
 
   abbrev pub Behind : ℕ → ℕ → Type 0
-  Behind i j = (previousOf t j ≡ 0 → j ≡ i) × (1 ≤ previousOf t j → kindOf t (previousOf t j) ≡ 4)
+  Behind i j = (previousOf t j ≡ 0 → j ≡ i) × (1 ≤ previousOf t j → waitsIn ByTicks (kindOf t (previousOf t j)) ≡ true)
 
   behind : (f i : ℕ) → previousSound t 0 (along (nextOf t) f i) ≡ true → All Ticking (along (nextOf t) f i) → (j : ℕ)
       → 0 < times j (along (nextOf t) f i) → Behind i j
@@ -179,23 +179,22 @@ module _ (t : List ℕ) where
 
   -- ---- the dated chain
 
-  -- where every slot of kind 4 stands in the interval chain, and the dated chain begins elsewhere
+  -- where every slot that waits for ticks stands in the interval chain, and the dated chain begins elsewhere
   pub record Apart : Type 0 where
-    pub ticking : (j : ℕ) → 1 ≤ j → j ≤ N → kindOf t j ≡ 4 → Behind (firstTicking t) j
+    pub ticking : (j : ℕ) → 1 ≤ j → j ≤ N → waitsIn ByTicks (kindOf t j) ≡ true → Behind (firstTicking t) j
     pub heads : firstTicking t ≡ firstDated t → firstTicking t ≡ 0
 
-  -- the walk stands at the head, or behind a slot of kind 5; what it has reached is not 0
+  -- the walk stands at the head, or behind a slot that waits for a date; what it has reached is not 0
   pub record Dated (x : Stand) : Type 0 where
     pub head : x .before ≡ 0 → x .slot ≡ firstDated t
-    pub kind : 1 ≤ x .before → kindOf t (x .before) ≡ 5
+    pub kind : 1 ≤ x .before → waitsIn ByDate (kindOf t (x .before)) ≡ true
     pub date : 1 ≤ x .reached
 
-  dates-kind : (x : Stand) → Slots → Apart → Dated x → InDates t N x → kindOf t (x .slot) ≡ 5
+  dates-kind : (x : Stand) → Slots → Apart → Dated x → InDates t N x → waitsIn ByDate (kindOf t (x .slot)) ≡ true
   dates-kind x slots apart d s =
       let i = x .slot in
       let z = tested t i (slots i (s .link .low) (s .link .high)) in
-      only (kindOf t i) (z .kind)
-      (λ h. omega (arith, z .alone h .0, s .low, d .date))
+      cases (waitsIn ByTicks (kindOf t i))
       (λ q.
       let b = apart .ticking i (s .link .low) (s .link .high) q in
       cases (eqb (x .before) 0)
@@ -203,15 +202,17 @@ module _ (t : List ℕ) where
       let none = eqb-true (x .before) 0 e in
       let at = b .0 (s .link .previous ∙ none) in
       let both-at = apart .heads (sym at ∙ d .head none) in
-      omega (arith, at, both-at, s .link .low))
+      absurd (omega (arith, at, both-at, s .link .low)))
       (λ e.
       let some = pos-of-ne-zero (eqb-false (x .before) 0 e) in
-      let four = b .1 (subst (λ (v : ℕ). 1 ≤ v) (sym (s .link .previous)) some) in
-      let four′ : kindOf t (x .before) ≡ 4 = subst (λ (v : ℕ). kindOf t v ≡ 4) (s .link .previous) four in
-      omega (arith, four′, d .kind some)))
-    where
-      only : (k : ℕ) → k ≤ 5 → (k ≤ 3 → ⊥) → (k ≡ 4 → ⊥) → k ≡ 5
-      only k h a b = omega arith
+      let ticking = b .1 (subst (λ (v : ℕ). 1 ≤ v) (sym (s .link .previous)) some) in
+      let before : waitsIn ByTicks (kindOf t (x .before)) ≡ true =
+      subst (λ (v : ℕ). waitsIn ByTicks (kindOf t v) ≡ true) (s .link .previous) ticking in
+      clash (sym (d .kind some) ∙ ticking-not-dated (kindOf t (x .before)) before)))
+      (λ q.
+      cases (linked (kindOf t i))
+      (λ w. else-dated (kindOf t i) w q)
+      (λ w. absurd (omega (arith, z .alone w .0, s .low, d .date))))
 
   -- what is reached is not above the last date
   last-date : (c : ℕ) (x : Stand) → 1 ≤ x .before → walkTested ByDate t N c x ≡ true → x .reached ≤ lastSecond
@@ -249,7 +250,7 @@ module _ (t : List ℕ) where
   dates-tested (suc c) x l e =
       let a = both (stepSound ByDate t N x) (walk ByDate t N c (step ByDate t x)) e in
       let date = waitOf t (x .slot) in
-      let w = both (linkSound t N 5 (x .slot) (x .before)) (waitSound ByDate t (x .slot) (x .reached)) (a .0) in
+      let w = both (linkSound ByDate t N (x .slot) (x .before)) (waitSound ByDate t (x .slot) (x .reached)) (a .0) in
       let b = both (leb (x .reached) date) (leb date lastSecond) (w .1) in
       let h = in-step ByDate x (a .0) in
       and-both (stepTested ByDate t N x) (walkTested ByDate t N c (step ByDate t x))

@@ -1,6 +1,6 @@
--- A walk that tests everything, of as many steps as there are slots of the chain's kind, decides the chain and its waits. A walk is its links and
--- its waits. The links end at 0, so they meet no slot twice; they meet slots of the kind only; and the sum over all slots of how often each is met is the
--- number of steps, which is the number of slots of the kind: so each of those is met once. Assumes nothing.
+-- A walk that tests everything, of as many steps as there are slots of the chain's kinds, decides the chain and its waits. A walk is its links and
+-- its waits. The links end at 0, so they meet no slot twice; they meet slots of those kinds only; and the sum over all slots of how often each is met
+-- is the number of steps, which is the number of such slots: so each of them is met once. Assumes nothing.
 use Prim.Native.Nat.{ℕ, zero, suc, _+_, _≤_, _<_}
 use mathlib.Core.Path.{_≡_, refl, sym, ap, _∙_, subst}
 use mathlib.Core.Bool.{Bool, true, false, cond, _&&_, and-true}
@@ -8,7 +8,7 @@ use mathlib.Core.List.{List, [], _∷_}
 use native.Mathlib.Omega.{arith}
 use lib.ListN.{length}
 use lib.Dec.{leb, eqb}
-use borrow.Author.Tests.{eqb-true, eqb-false, eq-eqb, le-leb, leb-true}
+use borrow.Author.Tests.{eqb-true, eq-eqb, le-leb, leb-true}
 use Rattle.calendar.specs.Calendar.{lastSecond}
 use Rattle.model.specs.Lists.{every, All}
 use Rattle.model.specs.declared.Chain.{Chain}
@@ -17,8 +17,7 @@ use Rattle.model.specs.Kinds.{waitsIn}
 use Rattle.model.specs.State.{Link}
 use Rattle.model.specs.Words.{word, headWord, along, accumulated, linksFrom, slotCount, seconds, firstTicking, firstDated, kindOf, intervalOf, waitOf, nextOf, previousOf}
 use Rattle.model.specs.Sound.{previousSound, chainTests, chainSound, firstSound, ticksSound, rising, datesSound}
-use Rattle.model.proofs.ListLaws.{cases, both, and-both, all-at, all-true, all-up, up-at, every-true, every-all, all-map, all-zip}
-use Rattle.table.proofs.KindTests.{kindIn, kind-is}
+use Rattle.model.proofs.ListLaws.{cases, clash, both, and-both, all-at, all-true, all-up, up-at, every-true, every-all, all-map, all-zip}
 use Rattle.word_checks.proofs.BooleanTests.{same, exchange}
 use Rattle.soundness.specs.Walks.{Stand, standing, origin, start, linkTested, waitTested, step, waiting}
 use Rattle.soundness.proofs.StepTests.{InLink, in-link, link-in}
@@ -32,9 +31,9 @@ waitsSound ByDate t = datesSound t
 
 -- ---- the walk that tests everything
 
--- slot i of n stands behind slot p, and is of that kind
-unfoldable pub linkSound : List ℕ → ℕ → ℕ → ℕ → ℕ → Bool
-linkSound t n kind i p = linkTested t n i p && eqb (kindOf t i) kind
+-- slot i of n stands behind slot p, and waits in the chain
+unfoldable pub linkSound : Chain → List ℕ → ℕ → ℕ → ℕ → Bool
+linkSound k t n i p = linkTested t n i p && waitsIn k (kindOf t i)
 
 -- what is tested of a wait; and a date is not past the last second
 abbrev pub waitSound : Chain → List ℕ → ℕ → ℕ → Bool
@@ -42,28 +41,27 @@ waitSound ByTicks t i b = waitTested ByTicks t i b
 waitSound ByDate t i b = waitTested ByDate t i b && leb (waitOf t i) lastSecond
 
 abbrev pub stepSound : Chain → List ℕ → ℕ → Stand → Bool
-stepSound k t n x = linkSound t n (kindIn k) (x .slot) (x .before) && waitSound k t (x .slot) (x .reached)
+stepSound k t n x = linkSound k t n (x .slot) (x .before) && waitSound k t (x .slot) (x .reached)
 
 -- c steps, and then the end of the chain
 unfoldable pub walk : Chain → List ℕ → ℕ → ℕ → Stand → Bool
 walk k t n zero x = eqb (x .slot) 0
 walk k t n (suc c) x = stepSound k t n x && walk k t n c (step k t x)
 
-pub record InChain (t : List ℕ) (n k i p : ℕ) : Type 0 where
+pub record InChain (k : Chain) (t : List ℕ) (n i p : ℕ) : Type 0 where
   pub link : InLink t n i p
-  pub kind : kindOf t i ≡ k
+  pub kind : waitsIn k (kindOf t i) ≡ true
 
-module _ (t : List ℕ) (n kind i p : ℕ) where
-  pub in-chain : linkSound t n kind i p ≡ true → InChain t n kind i p
+module _ (k : Chain) (t : List ℕ) (n i p : ℕ) where
+  pub in-chain : linkSound k t n i p ≡ true → InChain k t n i p
   unfolding linkSound
   in-chain e =
-      let a = both (linkTested t n i p) (eqb (kindOf t i) kind) e in
-      record { link = in-link t n i p (a .0); kind = eqb-true (kindOf t i) kind (a .1) }
+      let a = both (linkTested t n i p) (waitsIn k (kindOf t i)) e in
+      record { link = in-link t n i p (a .0); kind = a .1 }
 
-  pub chain-in : InChain t n kind i p → linkSound t n kind i p ≡ true
+  pub chain-in : InChain k t n i p → linkSound k t n i p ≡ true
   unfolding linkSound
-  chain-in h =
-      and-both (linkTested t n i p) (eqb (kindOf t i) kind) (link-in t n i p (h .link)) (eq-eqb (kindOf t i) kind (h .kind))
+  chain-in h = and-both (linkTested t n i p) (waitsIn k (kindOf t i)) (link-in t n i p (h .link)) (h .kind)
 
 module _ (k : Chain) (t : List ℕ) where
   -- 1 where slot j waits in the chain
@@ -85,7 +83,7 @@ module _ (k : Chain) (t : List ℕ) where
 
   abbrev linked : ℕ → ℕ → ℕ → ℕ → Bool
   linked n zero i p = eqb i 0
-  linked n (suc c) i p = linkSound t n (kindIn k) i p && linked n c (nextOf t i) i
+  linked n (suc c) i p = linkSound k t n i p && linked n c (nextOf t i) i
 
   abbrev waited : ℕ → ℕ → ℕ → Bool
   waited zero i b = true
@@ -96,14 +94,14 @@ module _ (k : Chain) (t : List ℕ) where
   walk-split n zero i p b = sym (and-true (eqb i 0))
   walk-split n (suc c) i p b =
       let b′ = accumulated k b (waitOf t i) in
-      ap (λ (x : Bool). (linkSound t n (kindIn k) i p && waitSound k t i b) && x) (walk-split n c (nextOf t i) i b′)
-      ∙ exchange (linkSound t n (kindIn k) i p) (waitSound k t i b) (linked n c (nextOf t i) i) (waited c (nextOf t i) b′)
+      ap (λ (x : Bool). (linkSound k t n i p && waitSound k t i b) && x) (walk-split n c (nextOf t i) i b′)
+      ∙ exchange (linkSound k t n i p) (waitSound k t i b) (linked n c (nextOf t i) i) (waited c (nextOf t i) b′)
 
   -- ---- the links
 
-  -- a slot of n, of the chain's kind
+  -- a slot of n that waits in the chain
   abbrev OfKind : ℕ → ℕ → Type 0
-  OfKind n x = (x ≤ n) × (kindOf t x ≡ kindIn k)
+  OfKind n x = (x ≤ n) × (waitsIn k (kindOf t x) ≡ true)
 
   record Linked (n c i p : ℕ) : Type 0 where
     ends : Ends (nextOf t) c i
@@ -113,8 +111,8 @@ module _ (k : Chain) (t : List ℕ) where
   from-linked : (n c i p : ℕ) → linked n c i p ≡ true → Linked n c i p
   from-linked n zero i p e = record { ends = eqb-true i 0 e; kind = tt; previous = refl }
   from-linked n (suc c) i p e =
-      let a = both (linkSound t n (kindIn k) i p) (linked n c (nextOf t i) i) e in
-      let h = in-chain t n (kindIn k) i p (a .0) in
+      let a = both (linkSound k t n i p) (linked n c (nextOf t i) i) e in
+      let h = in-chain k t n i p (a .0) in
       let r = from-linked n c (nextOf t i) i (a .1) in
       let is : along (nextOf t) (suc c) i ≡ i ∷ along (nextOf t) c (nextOf t i) = along-first (nextOf t) c i (h .link .low) in
       record {
@@ -132,8 +130,8 @@ module _ (k : Chain) (t : List ℕ) where
       let kinds : All (OfKind n) (i ∷ rest) = rw is at (h .kind) in
       let previous : previousSound t p (i ∷ rest) ≡ true = rw is at (h .previous) in
       let q = both (eqb (previousOf t i) p) (previousSound t i rest) previous in
-      and-both (linkSound t n (kindIn k) i p) (linked n c (nextOf t i) i)
-      (chain-in t n (kindIn k) i p
+      and-both (linkSound k t n i p) (linked n c (nextOf t i) i)
+      (chain-in k t n i p
       (record { link = record { low = h .ends .0; high = kinds .0 .0; previous = eqb-true (previousOf t i) p (q .0) }; kind = kinds .0 .1 }))
       (to-linked n c (nextOf t i) i (record { ends = h .ends .1; kind = kinds .1; previous = q .1 }))
 
@@ -164,10 +162,7 @@ module _ (k : Chain) (t : List ℕ) where
       (λ j a b.
       cases (waitsIn k (kindOf t j))
       (λ q. rw q (once (nextOf t) C head j (p .ends)))
-      (λ q. rw q (omega (
-        arith,
-        none-times (OfKind N) l j (p .kind) (λ z. eqb-false (kindOf t j) (kindIn k) (sym (kind-is k (kindOf t j)) ∙ q) (z .1)),
-      ))))
+      (λ q. rw q (omega (arith, none-times (OfKind N) l j (p .kind) (λ z. clash (sym (z .1) ∙ q))))))
       (sum-times l 1 N range ∙ len ∙ waiting-sum 1 N) in
       all-true (chainTests k t) (
         le-leb (length (along (nextOf t) (suc N) head)) N (rw is′ (omega arith)),
@@ -197,26 +192,23 @@ module _ (k : Chain) (t : List ℕ) where
       let kind : All (OfKind N) l = sort l range (λ x p q r. of-kind x (omega (arith, met x p q, r))) in
       to-linked N C head 0 (record { ends = ends′; kind = rw is at kind; previous = rw is at (at 3) })
     where
-      of-kind : (x : ℕ) → 0 < waits x → kindOf t x ≡ kindIn k
-      of-kind x p =
-          cases (waitsIn k (kindOf t x))
-          (λ e. eqb-true (kindOf t x) (kindIn k) (sym (kind-is k (kindOf t x)) ∙ e))
-          (λ e. absurd (let z : 0 < cond false 1 0 = rw e at p in omega arith))
+      of-kind : (x : ℕ) → 0 < waits x → waitsIn k (kindOf t x) ≡ true
+      of-kind x p = cases (waitsIn k (kindOf t x)) (λ e. e) (λ e. absurd (let z : 0 < cond false 1 0 = rw e at p in omega arith))
 
       sort : (l : List ℕ) → All (λ x. (1 ≤ x) × (x < 1 + N)) l
-          → ((x : ℕ) → 1 ≤ x → x < 1 + N → 0 < times x l → kindOf t x ≡ kindIn k) → All (OfKind N) l
+          → ((x : ℕ) → 1 ≤ x → x < 1 + N → 0 < times x l → waitsIn k (kindOf t x) ≡ true) → All (OfKind N) l
       sort [] r f = tt
       sort (y ∷ ys) r f = (
         (omega (arith, r .0 .1), f y (r .0 .0) (r .0 .1) (rw (eq-eqb y y refl) (omega arith))),
         sort ys (r .1) (λ x p q s. f x p q (cases (eqb y x) (λ e. rw e (omega arith)) (λ e. rw e s))),
       )
 
-  pub met-once : chainSound k t ≡ true → (j : ℕ) → 1 ≤ j → j ≤ N → kindOf t j ≡ kindIn k → times j (along (nextOf t) N head) ≡ 1
+  pub met-once : chainSound k t ≡ true → (j : ℕ) → 1 ≤ j → j ≤ N → waitsIn k (kindOf t j) ≡ true → times j (along (nextOf t) N head) ≡ 1
   unfolding chainSound
   met-once e j a b q =
       let l = along (nextOf t) N head in
       eqb-true (times j l) (waits j) (up-at (λ i. eqb (times i l) (waits i)) 1 N (all-at (chainTests k t) e 2) j a (omega arith))
-      ∙ rw (kind-is k (kindOf t j), eq-eqb (kindOf t j) (kindIn k) q)
+      ∙ rw q
 
 -- ---- the waits
 

@@ -9,17 +9,18 @@
 // must stand at 0, and the last date must not be past the last second.
 //
 // Why it is right. A walk that ends at 0 meets no slot twice: the number of steps from a slot to the end depends on the slot alone, so a
-// slot that came again would have two. It met slots of its kind only, each at most once, and took as many steps as there are slots of the
-// kind: so it met each exactly once. If on the other hand the chain is right, it has just as many slots as the pass pays for, no step
-// fails, and the walk ends at 0. Neither a mark for each slot nor a counter is kept, and no word is read that the table does not have.
+// slot that came again would have two. It met slots of its kinds only (4 and 6 in the interval chain, 5 in the dated one), each at most
+// once, and took as many steps as there are slots of those kinds: so it met each exactly once. If on the other hand the chain is right, it
+// has just as many slots as the pass pays for, no step fails, and the walk ends at 0. Neither a mark for each slot nor a counter is kept,
+// and no word is read that the table does not have.
 //
 // What is left out, since it follows (proofs/UntestedFollows.antt):
-//   that the interval of kind 4 is 1 or more: the walk meets every such slot, with ticks left from 1 up to the interval;
-//   the kind in a step along the interval chain: besides 4 only kind 2 has an interval, and there the pass finds wait and previous 0: it
-//     could only come first, where no ticks are left yet, and so has fewer than 1;
-//   the kind in a step along the dated chain: kinds 0 to 3 have wait 0, which is no date to come. A slot of kind 4 stands in the interval
-//     chain, where its previous is of kind 4 or, at the head, 0: the first that the walk came to would stand behind one of kind 5, or be
-//     the head of both chains;
+//   that the interval of kinds 4 and 6 is 1 or more: the walk meets every such slot, with ticks left from 1 up to the interval;
+//   the kind in a step along the interval chain: besides 4 and 6 only kinds 2 and 7 have an interval, and there the pass finds wait and
+//     previous 0: such a slot could only come first, where no ticks are left yet, and so has fewer than 1;
+//   the kind in a step along the dated chain: kinds 0 to 3 and 7 have wait 0, which is no date to come. A slot of kind 4 or 6 stands in the
+//     interval chain, where its previous is of kind 4 or 6 or, at the head, 0: the first that the walk came to would stand behind one of
+//     kind 5, or be the head of both chains;
 //   in a step, that the date is not past the last second: dates never fall along the chain, so that the last one is the greatest.
 //
 // The tests of the header and of a slot by itself are in crate `word_checks`, those of the walks in checks.rt.
@@ -56,7 +57,7 @@ pub fn is_sound(t: &[u32]) -> bool
         }
         let kind = get(&*t, i, KIND);
         i += 1;
-        if kind == WAITING_TICKS {
+        if waits_for_ticks(kind) {
             if !checks::tick_tested(&*t, n, tick_at, tick_before, ticks) {
                 return false;
             }

@@ -1,19 +1,43 @@
--- The kind and the words that are stored in the slot that an id names, as reset finds them. Assumes nothing.
+-- The kind and the words that are stored in the slot that an id names, as reset finds them, and how a timer of a kind was last started.
+-- Assumes nothing.
 use mathlib.Core.Path.{_≡_, refl, sym, ap, _∙_}
-use Prim.Native.Nat.{ℕ}
-use mathlib.Core.Bool.{Bool, true}
-use mathlib.Core.Option.{Option, none, some}
+use mathlib.Core.Logic.{_≢_}
+use Prim.Native.Nat.{ℕ, _≤_, _<_}
+use mathlib.Core.Bool.{Bool, true, cond}
 use mathlib.Core.List.{List}
+use lib.Dec.{ltb, eqb}
+use borrow.Author.Tests.{ne-eqb, lt-ltb, le-ltb}
 use Rattle.model.specs.declared.Mode.{Mode}
-use Rattle.model.specs.declared.Mode.the-variants.{After, When}
-use Rattle.model.specs.Kinds.{kindAt, byTicks, lastByTicks, modeOrAfter}
+use Rattle.model.specs.declared.Mode.the-variants.{After, Every}
+use Rattle.model.specs.Kinds.{byTicks, lastByTicks, modeOrAfter, lastMode}
 use Rattle.model.specs.Calls.{reset}
 use Rattle.model.specs.State.{Slot, slotAt, indexOf}
 use Rattle.model.specs.Directives.{started, effect}
 use Rattle.model.specs.Words.{writtenOver, read, slotFrom, kindOf, intervalOf, routineOf, dataOf}
-use Rattle.model.proofs.ListLaws.{clash}
+use Rattle.model.proofs.KindLaws.{on-numbers}
 use Rattle.model.proofs.ReadBack.{slot-read}
+use Rattle.table.proofs.KindTests.{timed-is}
 use Rattle.opening.specs.Ids.{Named}
+
+-- ---- how it was started
+
+-- the last of the kinds that were started by interval
+pub timed-last : (n : ℕ) → n ≢ 2 → n ≢ 4 → n ≢ 6 → eqb n 7 ≡ lastByTicks n
+timed-last n a b c = sym (timed-is n ∙ rw (ne-eqb n 2 a, ne-eqb n 4 b, ne-eqb n 6 c))
+
+module _ (n : ℕ) (timed : lastByTicks n ≡ true) where
+  mode-by-number : cond (ltb n 6) After Every ≡ lastMode n
+  mode-by-number =
+      ap (λ (b : Bool). cond b (cond (ltb n 6) After Every) (lastMode n)) (sym timed)
+      ∙ on-numbers (λ m x. cond (byTicks (x .last)) (cond (ltb m 6) After Every) (modeOrAfter (x .last))) (λ _ x. modeOrAfter (x .last)) refl (λ m _. refl) n
+
+  pub as-after : n < 6 → After ≡ lastMode n
+  as-after p = ap (λ (b : Bool). cond b After Every) (sym (lt-ltb n 6 p)) ∙ mode-by-number
+
+  pub as-every : 6 ≤ n → Every ≡ lastMode n
+  as-every p = ap (λ (b : Bool). cond b After Every) (sym (le-ltb n 6 p)) ∙ mode-by-number
+
+-- ---- the slot
 
 module _ {t : List ℕ} {id i : ℕ} (at : Named t id i) where
   slot-is : slotAt (read t .slots) (indexOf id) ≡ slotFrom t i
@@ -22,17 +46,10 @@ module _ {t : List ℕ} {id i : ℕ} (at : Named t id i) where
   pub timed : {kind : ℕ} {b : Bool} → kind ≡ kindOf t i → b ≡ lastByTicks kind → b ≡ lastByTicks (slotAt (read t .slots) (indexOf id) .kind)
   timed k is = is ∙ ap lastByTicks k ∙ ap (λ (x : Slot). lastByTicks (x .kind)) (sym slot-is)
 
-  pub reset-is : {n r u : ℕ} {v : List ℕ} → lastByTicks (slotAt (read t .slots) (indexOf id) .kind) ≡ true
-      → v ≡ writtenOver (started After (read t) i n r u) t → n ≡ intervalOf t i → r ≡ routineOf t i → u ≡ dataOf t i
+  pub reset-is : {m : Mode} {kind n r u : ℕ} {v : List ℕ} → kind ≡ kindOf t i → m ≡ lastMode kind
+      → v ≡ writtenOver (started m (read t) i n r u) t → n ≡ intervalOf t i → r ≡ routineOf t i → u ≡ dataOf t i
       → v ≡ writtenOver (effect (read t) (reset id) .state) t
-  reset-is by-ticks e a b c =
-      let x = slotAt (read t .slots) (indexOf id) in
+  reset-is k mode e a b c =
       e
-      ∙ (λ j. writtenOver (started After (read t) (at .index j) (a j) (b j) (c j)) t)
-      ∙ ap (λ (y : Slot). writtenOver (started After (read t) (indexOf id) (y .interval) (y .routine) (y .userData)) t) (sym slot-is)
-      ∙ ap (λ (m : Mode). writtenOver (started m (read t) (indexOf id) (x .interval) (x .routine) (x .userData)) t) (sym (as-before (kindAt (x .kind) .last) by-ticks))
-    where
-      as-before : (o : Option Mode) → byTicks o ≡ true → modeOrAfter o ≡ After
-      as-before none z = refl
-      as-before (some After) z = refl
-      as-before (some When) z = clash (sym z)
+      ∙ (λ j. writtenOver (started ((mode ∙ ap lastMode k) j) (read t) (at .index j) (a j) (b j) (c j)) t)
+      ∙ ap (λ (y : Slot). writtenOver (started (lastMode (y .kind)) (read t) (indexOf id) (y .interval) (y .routine) (y .userData)) t) (sym slot-is)

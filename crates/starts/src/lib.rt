@@ -1,10 +1,12 @@
-// The calls that start timers: for some ticks, for a date, and again. Their contracts are as those of crate `timer`.
+// The calls that start timers: for some ticks, for a date, for every so many ticks, and again. Their contracts are as those of crate `timer`.
 ghost use mathlib.Core.Path.{_≡_};
+ghost use mathlib.Core.Bool.{true};
 ghost use mathlib.Core.List.{[]};
-ghost use Rattle.model.specs.Kinds.{lastByTicks};
+ghost use Rattle.model.specs.Kinds.{lastByTicks, lastMode};
 ghost use Rattle.model.specs.Calls as call;
 ghost use Rattle.model.specs.Outcome.{outcomeOf, outcome};
 ghost use Rattle.answers.specs.Answers.{statusOf, answerOf};
+ghost use Rattle.starts.specs.Starts.{startOutcome};
 use answers::Answer;
 use calendar::Instant;
 use calendar::WallTime;
@@ -23,12 +25,36 @@ fn was_by_ticks(kind: u32) -> bool
     if kind == IDLE_TICKS {
         return true;
     }
-    kind == WAITING_TICKS
+    if kind == WAITING_TICKS {
+        return true;
+    }
+    if kind == WAITING_EVERY {
+        return true;
+    }
+    kind == IDLE_EVERY
 }
 
-// A timer waits for so many ticks from now, behind every timer due at the same tick.
-pub fn fire_after(table: &mut [u32], id: u32, ticks: u32, routine: u32, user_data: u32) -> Answer
-    ensures { λ r. ⌜ outcomeOf (statusOf r) (answerOf r) (now (table .exit)) [] ≡ outcome (now (table .entry)) (call.fireAfter id ticks routine user_data) ⌝ }
+// How a timer of the kind was last started.
+fn last_mode(kind: u32) -> Mode
+    requires { ⌜ lastByTicks kind ≡ true ⌝ }
+    ensures { λ r. ⌜ r ≡ lastMode kind ⌝ }
+{
+    if kind < WAITING_EVERY {
+        return Mode::After;
+    }
+    Mode::Every
+}
+
+// A timer waits for so many ticks from now, once or again and again by the mode, behind every timer due at the same tick.
+fn start_ticks(
+    table: &mut [u32],
+    mode: Mode,
+    id: u32,
+    ticks: u32,
+    routine: u32,
+    user_data: u32,
+) -> Answer
+    ensures { λ r. ⌜ outcomeOf (statusOf r) (answerOf r) (now (table .exit)) [] ≡ startOutcome mode (now (table .entry)) id ticks routine user_data ⌝ }
 {
     if !is_sound(table) {
         return Answer::Refused(Status::NotSound);
@@ -43,8 +69,22 @@ pub fn fire_after(table: &mut [u32], id: u32, ticks: u32, routine: u32, user_dat
     if i == 0 {
         return Answer::Refused(Status::InvalidId);
     }
-    start(table, Mode::After, i, ticks, routine, user_data);
+    start(table, mode, i, ticks, routine, user_data);
     Answer::Done(0)
+}
+
+// A timer fires so many ticks from now.
+pub fn fire_after(table: &mut [u32], id: u32, ticks: u32, routine: u32, user_data: u32) -> Answer
+    ensures { λ r. ⌜ outcomeOf (statusOf r) (answerOf r) (now (table .exit)) [] ≡ outcome (now (table .entry)) (call.fireAfter id ticks routine user_data) ⌝ }
+{
+    start_ticks(table, Mode::After, id, ticks, routine, user_data)
+}
+
+// A timer fires every so many ticks from now on, until it is cancelled, started anew or deleted.
+pub fn fire_every(table: &mut [u32], id: u32, ticks: u32, routine: u32, user_data: u32) -> Answer
+    ensures { λ r. ⌜ outcomeOf (statusOf r) (answerOf r) (now (table .exit)) [] ≡ outcome (now (table .entry)) (call.fireEvery id ticks routine user_data) ⌝ }
+{
+    start_ticks(table, Mode::Every, id, ticks, routine, user_data)
 }
 
 // A timer waits for a date, behind every timer due at the same date.
@@ -74,7 +114,7 @@ pub fn fire_when(table: &mut [u32], id: u32, when: WallTime, routine: u32, user_
     Answer::Done(0)
 }
 
-// A timer last started by interval starts again with the interval, routine and data that it has stored.
+// A timer last started by interval starts again as it was, with the interval, routine and data that it has stored.
 pub fn reset(table: &mut [u32], id: u32) -> Answer
     ensures { λ r. ⌜ outcomeOf (statusOf r) (answerOf r) (now (table .exit)) [] ≡ outcome (now (table .entry)) (call.reset id) ⌝ }
 {
@@ -82,12 +122,14 @@ pub fn reset(table: &mut [u32], id: u32) -> Answer
     let Answer::Done(i) = opened else {
         return opened;
     };
-    if !was_by_ticks(get(table, i, KIND)) {
+    let kind = get(table, i, KIND);
+    if !was_by_ticks(kind) {
         return Answer::Refused(Status::NotDefined);
     }
+    let mode = last_mode(kind);
     let ticks = get(table, i, INTERVAL);
     let routine = get(table, i, ROUTINE);
     let user_data = get(table, i, DATA);
-    start(table, Mode::After, i, ticks, routine, user_data);
+    start(table, mode, i, ticks, routine, user_data);
     Answer::Done(0)
 }

@@ -1,47 +1,67 @@
--- The model's kinds as the numbers that the code compares. Assumes nothing.
+-- The model's kinds as the numbers that the code compares, and what the chains say of a kind. Assumes nothing.
 use mathlib.Core.Path.{_≡_, refl, sym, ap, _∙_}
-use Prim.Native.Nat.{ℕ, _≤_, _<_}
+use Prim.Native.Nat.{ℕ, zero, suc, _≤_, _<_}
 use native.Mathlib.Omega.{arith}
-use mathlib.Core.Bool.{Bool, true, false, _||_}
-use mathlib.Core.Option.{none}
+use mathlib.Core.Bool.{Bool, true, false, cond, _||_}
+use mathlib.Core.Option.{Option, none, some}
 use lib.ListN.{List·getD-eq-default}
 use lib.Dec.{ltb, eqb}
-use borrow.Author.Tests.{ltb-true, ltb-false, eq-eqb, ne-eqb}
+use borrow.Author.Tests.{ltb-true, ltb-false, ne-eqb}
 use Rattle.model.specs.declared.Chain.{Chain}
 use Rattle.model.specs.declared.Chain.the-variants.{ByTicks, ByDate}
 use Rattle.model.specs.Kinds.{Kind, kindEntry, kinds, kindAt, isIn, waitsIn, isSome, linked, byTicks, lastByTicks}
-use Rattle.model.proofs.ListLaws.{cases}
-use Rattle.model.proofs.KindLaws.{readAll, on-kinds}
+use Rattle.model.proofs.ListLaws.{cases, clash}
+use Rattle.model.proofs.KindLaws.{readAll, on-kinds, on-numbers}
 
--- the kind of a slot that waits in chain k
-abbrev pub kindIn : Chain → ℕ
-kindIn ByTicks = 4
-kindIn ByDate = 5
+-- ---- a test on what a kind says is a test on its number
 
--- a test on what a kind says is a test on its number
 number : (f : Kind → Bool) (g : ℕ → Bool) → readAll (λ _ x. f x) 0 kinds ≡ readAll (λ n _. g n) 0 kinds
-    → ((n : ℕ) → 5 < n → f (kindEntry none n n none) ≡ g n) → (n : ℕ) → f (kindAt n) ≡ g n
+    → ((n : ℕ) → 7 < n → f (kindEntry none n n none) ≡ g n) → (n : ℕ) → f (kindAt n) ≡ g n
 number f g same past n =
-    cases (ltb n 6)
-    (λ e. on-kinds (λ _ x. f x) (λ m _. g m) same n (ltb-true n 6 e))
-    (λ e. ap f (List·getD-eq-default kinds (kindEntry none n n none) {n = n} (ltb-false n 6 e)) ∙ past n (ltb-false n 6 e))
+    cases (ltb n 8)
+    (λ e. on-kinds (λ _ x. f x) (λ m _. g m) same n (ltb-true n 8 e))
+    (λ e. ap f (List·getD-eq-default kinds (kindEntry none n n none) {n = n} (ltb-false n 8 e)) ∙ past n (ltb-false n 8 e))
 
-pub kind-is : (k : Chain) (n : ℕ) → waitsIn k n ≡ eqb n (kindIn k)
-kind-is ByTicks n =
-    number (λ x. isIn ByTicks (x .chain)) (λ m. eqb m 4) refl (λ m p. sym (ne-eqb m 4 (λ e. omega arith))) n
-kind-is ByDate n =
-    number (λ x. isIn ByDate (x .chain)) (λ m. eqb m 5) refl (λ m p. sym (ne-eqb m 5 (λ e. omega arith))) n
+pub ticking-is : (n : ℕ) → waitsIn ByTicks n ≡ (eqb n 4 || eqb n 6)
+ticking-is =
+    number (λ x. isIn ByTicks (x .chain)) (λ n. eqb n 4 || eqb n 6) refl
+    (λ n p. sym (rw (ne-eqb n 4 (λ e. omega arith), ne-eqb n 6 (λ e. omega arith))))
 
-pub timed-is : (n : ℕ) → lastByTicks n ≡ (eqb n 2 || eqb n 4)
-timed-is n =
-    number (λ x. byTicks (x .last)) (λ m. eqb m 2 || eqb m 4) refl
-    (λ m p. sym (rw (ne-eqb m 2 (λ e. omega arith), ne-eqb m 4 (λ e. omega arith)))) n
+pub dated-is : (n : ℕ) → waitsIn ByDate n ≡ eqb n 5
+dated-is = number (λ x. isIn ByDate (x .chain)) (λ n. eqb n 5) refl (λ n p. sym (ne-eqb n 5 (λ e. omega arith)))
 
-pub linked-is : (n : ℕ) → n ≤ 5 → linked n ≡ ltb 3 n
-linked-is n p = on-kinds (λ _ x. isSome (x .chain)) (λ m _. ltb 3 m) refl n (omega arith)
+pub timed-is : (n : ℕ) → lastByTicks n ≡ (eqb n 2 || eqb n 4 || eqb n 6 || eqb n 7)
+timed-is =
+    number (λ x. byTicks (x .last)) (λ n. eqb n 2 || eqb n 4 || eqb n 6 || eqb n 7) refl
+    (λ n p. sym (rw (ne-eqb n 2 (λ e. omega arith), ne-eqb n 4 (λ e. omega arith), ne-eqb n 6 (λ e. omega arith), ne-eqb n 7 (λ e. omega arith))))
 
-pub is-in : (k : Chain) (n : ℕ) → n ≡ kindIn k → waitsIn k n ≡ true
-is-in k n e = kind-is k n ∙ eq-eqb n (kindIn k) e
+-- ---- what the chains say of a kind
 
-pub not-in : (k : Chain) (n : ℕ) → (n ≡ kindIn k → ⊥) → waitsIn k n ≡ false
-not-in k n e = kind-is k n ∙ ne-eqb n (kindIn k) e
+-- a free timer, or one that was never started, is in no chain
+pub new-apart : (n : ℕ) → n ≤ 1 → linked n ≡ false
+new-apart zero p = refl
+new-apart (suc zero) p = refl
+new-apart (suc (suc n)) p = absurd (omega arith)
+
+-- a timer that was last started by interval is in the interval chain or in none
+pub timed-apart : (n : ℕ) → lastByTicks n ≡ true → waitsIn ByTicks n ≡ false → linked n ≡ false
+timed-apart n e f =
+    sym (rw (e, f))
+    ∙ on-numbers (λ _ x. cond (byTicks (x .last)) (cond (isIn ByTicks (x .chain)) false (isSome (x .chain))) false) (λ _ _. false) refl (λ n e. refl) n
+
+-- a timer in the interval chain is not in the dated one; one that is in some other chain is
+not-dated : (o : Option Chain) → isIn ByTicks o ≡ true → isIn ByDate o ≡ false
+not-dated none e = refl
+not-dated (some ByTicks) e = refl
+not-dated (some ByDate) e = clash (sym e)
+
+dated : (o : Option Chain) → isSome o ≡ true → isIn ByTicks o ≡ false → isIn ByDate o ≡ true
+dated none e f = clash (sym e)
+dated (some ByTicks) e f = clash f
+dated (some ByDate) e f = refl
+
+pub ticking-not-dated : (n : ℕ) → waitsIn ByTicks n ≡ true → waitsIn ByDate n ≡ false
+ticking-not-dated n = not-dated (kindAt n .chain)
+
+pub else-dated : (n : ℕ) → linked n ≡ true → waitsIn ByTicks n ≡ false → waitsIn ByDate n ≡ true
+else-dated n = dated (kindAt n .chain)

@@ -6,9 +6,16 @@
 //   1 ticks in a second   6 first slot of the dated chain       0 kind     1 name   2 interval   3 wait
 //   2 clock set, 0 or 1   7 to 9 zero                           4 routine  5 data   6 next       7 previous
 //   3 seconds             4 ticks into the second
+//
+// The kinds. An idle timer is told apart by how it was last started; a periodic one waits again when it fired.
+//
+//   0 free            2 idle, by interval   4 waiting for ticks    6 waiting for ticks, periodic
+//   1 never started   3 idle, by date       5 waiting for a date   7 idle, periodic
 ghost use mathlib.Core.Path.{_≡_};
 ghost use Prim.Native.Nat.{_+_, _*_, _<_, _≤_};
 ghost use lib.ListN.{length, set};
+ghost use Rattle.model.specs.declared.Chain.the-variants.{ByTicks};
+ghost use Rattle.model.specs.Kinds.{waitsIn};
 ghost use Rattle.model.specs.Words.{field, seconds};
 
 // The words of the header.
@@ -74,6 +81,20 @@ pub const IDLE_DATE: u32 = 3;
 pub const WAITING_TICKS: u32 = 4;
 
 pub const WAITING_DATE: u32 = 5;
+
+pub const WAITING_EVERY: u32 = 6;
+
+pub const IDLE_EVERY: u32 = 7;
+
+// A timer of this kind waits in the interval chain.
+pub fn waits_for_ticks(kind: u32) -> bool
+    ensures { λ r. ⌜ r ≡ waitsIn ByTicks kind ⌝ }
+{
+    if kind == WAITING_TICKS {
+        return true;
+    }
+    kind == WAITING_EVERY
+}
 
 // Word f of slot i.
 pub fn get(t: &[u32], i: u32, f: usize) -> u32

@@ -123,7 +123,7 @@ pub fn ticks_left(table: &[u32], id: u32) -> Answer
     let Answer::Done(i) = opened else {
         return opened;
     };
-    if get(table, i, KIND) != WAITING_TICKS {
+    if !waits_for_ticks(get(table, i, KIND)) {
         return Answer::Done(0);
     }
     Answer::Done(ticks_to(table, i))

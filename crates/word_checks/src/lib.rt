@@ -4,7 +4,7 @@ ghost use mathlib.Core.Bool.{_&&_};
 ghost use Prim.Native.Nat.{_+_, _*_, _≤_};
 ghost use lib.ListN.{length};
 ghost use Rattle.model.specs.Sound.{headerSound, unlinked, unstarted};
-ghost use Rattle.word_checks.specs.Tested.{allZero, slotTested};
+ghost use Rattle.word_checks.specs.Tested.{allZero, idleInterval, slotTested};
 use calendar::LAST_SECOND;
 use table::*;
 
@@ -87,7 +87,22 @@ fn is_blank(t: &[u32], i: u32) -> bool
     )
 }
 
-// The words of slot i, by its kind. The wait and the links of a waiting slot are left to the walks, and so is the interval of kind 4.
+// Slot i, of an idle kind: wait and links are zero, and the interval is zero after a start by date, 1 or more after one by interval.
+fn idle_tested(t: &[u32], i: u32, kind: u32) -> bool
+    requires { ⌜ 8 * i + 10 ≤ length (now t) ⌝ }
+    ensures { λ r. ⌜ r ≡ (unlinked (now (t .entry)) i && idleInterval (now (t .entry)) i kind) ⌝ }
+{
+    if !is_unlinked(t, i) {
+        return false;
+    }
+    if kind == IDLE_DATE {
+        return get(t, i, INTERVAL) == 0;
+    }
+    0 < get(t, i, INTERVAL)
+}
+
+// The words of slot i, by its kind. The wait and the links of a waiting slot are left to the walks, and so is the interval of one that waits
+// for ticks. Periodic kinds come last, so that they cost the others nothing.
 pub fn slot_tested(t: &[u32], i: u32) -> bool
     requires { ⌜ 8 * i + 10 ≤ length (now t) ⌝ }
     ensures { λ r. ⌜ r ≡ slotTested (now (t .entry)) i ⌝ }
@@ -112,18 +127,17 @@ pub fn slot_tested(t: &[u32], i: u32) -> bool
     if kind == WAITING_TICKS {
         return true;
     }
-    let interval = get(t, i, INTERVAL);
     if kind == WAITING_DATE {
-        return interval == 0;
+        return get(t, i, INTERVAL) == 0;
     }
-    if !is_unlinked(t, i) {
-        return false;
+    if kind <= IDLE_DATE {
+        return idle_tested(t, i, kind);
     }
-    if kind == IDLE_TICKS {
-        return 0 < interval;
+    if kind == WAITING_EVERY {
+        return true;
     }
-    if kind == IDLE_DATE {
-        return interval == 0;
+    if kind == IDLE_EVERY {
+        return idle_tested(t, i, kind);
     }
     false
 }

@@ -1,11 +1,12 @@
--- `links::stop` meets its contract: a waiting timer is extracted from its chain, and any other is stopped already. Assumes nothing.
-use mathlib.Core.Path.{sym, ap, _∙_}
+-- `links::stop` meets its contract: a timer that waits is extracted from its chain, and any other is stopped already. Assumes nothing.
+use mathlib.Core.Path.{_≡_, sym, ap, _∙_, subst}
 use Prim.Native.Nat.{ℕ}
 use native.Mathlib.Omega.{arith}
-use Rattle.model.specs.declared.Chain.the-variants.{ByTicks, ByDate}
-use Rattle.model.specs.Kinds.{kindAt}
-use Rattle.table.proofs.KindTests.{is-in}
-use Rattle.links.proofs.Extracting.{waits-none, in-words, extractable, stop-waiting, stop-idle}
+use mathlib.Core.Bool.{true, false}
+use Rattle.model.specs.Kinds.{kindAt, waitsIn}
+use Rattle.model.proofs.KindLaws.{in-none}
+use Rattle.links.proofs.StoppedKinds.{same-stops, other-stops}
+use Rattle.links.proofs.Extracting.{in-words, stop-idle}
 use borrow.Author.Needs.{needs}
 use Rattle.links.proofs.stop.Statement.{statement}
 use Rattle.links.proofs.stop.Tie as tie
@@ -14,78 +15,51 @@ get-requires : tie.Need-get-requires
 get-requires c κs =
     let start = c .before .before in (omega arith, in-words (start .args .t .now) (start .args .i) (start .pre))
 
-extract-requires : tie.Need-extract-requires
-extract-requires c κs =
-    let asked = c .before .before in
-    let start = asked .before .before .before in
-    extractable (start .args .t .now) (start .args .i) (start .pre) ByTicks (is-in ByTicks _ (sym (asked .get .ensures) ∙ c .before .if1 .taken))
-    (λ m. asked .before .before .slice-known .given m .fits)
-
-put-requires : tie.Need-put-requires
-put-requires c κs =
-    let done = c .before .before .before in
-    let start = done .before .before .before .before .before .before in
-    (omega arith, omega (arith, done .extract .kept, in-words (start .args .t .now) (start .args .i) (start .pre)))
+stopped-kind-requires : tie.Need-stopped-kind-requires
+stopped-kind-requires c κs = search needs
 
 same-length : tie.Need-same-length
 same-length c = search needs
 
 returns : tie.Need-returns
 returns c =
-    let done = c .before .before .before .before .before .before in
-    let asked = done .before .before .before in
-    let start = asked .before .before .before in
-    let four = sym (asked .get .ensures) ∙ done .before .before .if1 .taken in
-    stop-waiting (start .args .t .now) (start .args .i) (start .pre) ByTicks (is-in ByTicks _ four) 2 (sym (ap (λ (n : ℕ). kindAt n .whenStopped) four))
-    (done .extract .ensures) (c .before .before .put .ensures)
+    let kind = c .before .before .get in
+    let start = c .before .before .before .before .before in
+    stop-idle (start .args .t .now) (start .args .i) (start .pre)
+    (λ k. subst (λ (n : ℕ). waitsIn k n ≡ false) (kind .ensures)
+    (in-none (kindAt (kind .result) .chain) k (same-stops (kind .result) (sym (c .before .stopped-kind .ensures) ∙ c .if1 .taken))))
 
-extract-requires-2 : tie.Need-extract-requires-2
-extract-requires-2 c κs =
-    let asked = c .before .before .before in
-    let start = asked .before .before .before in
-    extractable (start .args .t .now) (start .args .i) (start .pre) ByDate (is-in ByDate _ (sym (asked .get .ensures) ∙ c .before .if2 .taken))
-    (λ m. asked .before .before .slice-known .given m .fits)
+chain-in-requires : tie.Need-chain-in-requires
+chain-in-requires c κs =
+    let test = c .before in
+    other-stops (test .before .before .get .result) (λ e. test .if1 .left (test .before .stopped-kind .ensures ∙ e))
 
-put-requires-2 : tie.Need-put-requires-2
-put-requires-2 c κs =
-    let done = c .before .before .before in
-    let start = done .before .before .before .before .before .before .before in
-    (omega arith, omega (arith, done .extract2 .kept, in-words (start .args .t .now) (start .args .i) (start .pre)))
+stop-in-requires : tie.Need-stop-in-requires
+stop-in-requires c κs =
+    let kind = c .before .before .before .before .get in
+    let idle = c .before .before .before .stopped-kind in
+    let start = c .before .before .before .before .before .before .before in
+    record {
+      in-table = start .pre;
+      waits = subst (λ (n : ℕ). waitsIn (c .chain-in .result) n ≡ true) (kind .ensures) (c .chain-in .ensures);
+      kind = idle .ensures ∙ ap (λ (n : ℕ). kindAt n .whenStopped) (kind .ensures);
+    }
 
 same-length-2 : tie.Need-same-length-2
 same-length-2 c = search needs
 
 returns-2 : tie.Need-returns-2
-returns-2 c =
-    let done = c .before .before .before .before .before .before in
-    let asked = done .before .before .before .before in
-    let start = asked .before .before .before in
-    let five = sym (asked .get .ensures) ∙ done .before .before .if2 .taken in
-    stop-waiting (start .args .t .now) (start .args .i) (start .pre) ByDate (is-in ByDate _ five) 3 (sym (ap (λ (n : ℕ). kindAt n .whenStopped) five))
-    (done .extract2 .ensures) (c .before .before .put2 .ensures)
-
-same-length-3 : tie.Need-same-length-3
-same-length-3 c = search needs
-
-returns-3 : tie.Need-returns-3
-returns-3 c =
-    let asked = c .before .before in
-    let start = asked .before .before .before in
-    stop-idle (start .args .t .now) (start .args .i) (start .pre)
-    (rw (asked .get .ensures) at (waits-none (asked .get .result) (c .before .if1 .left) (c .if2 .left)))
+returns-2 c = search needs
 
 pub stop-spec : {M : Type 1} → statement M
 stop-spec =
     tie.close
     (tie.spec
     get-requires
-    extract-requires
-    put-requires
+    stopped-kind-requires
     same-length
     returns
-    extract-requires-2
-    put-requires-2
+    chain-in-requires
+    stop-in-requires
     same-length-2
-    returns-2
-    same-length-3
-    returns-3)
+    returns-2)

@@ -3,12 +3,13 @@
 -- The measure is the slots ahead. Assumes nothing.
 use borrow.Author.Needs.{needs}
 use Prim.Native.Nat.{ℕ, _+_, _-_, _*_, _≤_}
-use mathlib.Core.Path.{_≡_, sym, _∙_}
+use mathlib.Core.Path.{_≡_, sym, ap, _∙_}
 use mathlib.Core.Bool.{Bool, true}
 use mathlib.Core.List.{List}
 use native.Mathlib.Omega.{arith}
 use borrow.Author.Tests.{eq-eqb, ne-eqb}
 use Rattle.model.specs.declared.Chain.the-variants.{ByTicks, ByDate}
+use Rattle.model.specs.Kinds.{waitsIn}
 use Rattle.model.specs.Words.{slotCount, kindOf}
 use Rattle.model.specs.Sound.{headerSound}
 use Rattle.word_checks.specs.Tested.{slotTested}
@@ -57,16 +58,22 @@ in-range c = omega arith
 slot-passed : (c : tie.Else3 Inv-loop μ-loop) → let l = c .before .before .before in slotTested (turn l) (l .loop .i) ≡ true
 slot-passed c = passed (c .before .slot-tested .ensures) (c .if3 .left)
 
-four : (c : tie.Then4 Inv-loop μ-loop) → let l = c .before .before .before .before .before in kindOf (turn l) (l .loop .i) ≡ 4
-four c = sym (c .before .get .ensures) ∙ c .if4 .taken
+-- what waits_for_ticks said of the slot's kind
+asked : (c : tie.After-waits-for-ticks Inv-loop μ-loop) → let l = c .before .before .before .before .before in
+    c .waits-for-ticks .result ≡ waitsIn ByTicks (kindOf (turn l) (l .loop .i))
+asked c = c .waits-for-ticks .ensures ∙ ap (waitsIn ByTicks) (c .before .get .ensures)
 
-tick-passed : (c : tie.Else5 Inv-loop μ-loop) → tick (c .before .before .before .before .before .before .before) ≡ true
+ticking : (c : tie.Then4 Inv-loop μ-loop) → let l = c .before .before .before .before .before .before in
+    waitsIn ByTicks (kindOf (turn l) (l .loop .i)) ≡ true
+ticking c = sym (asked (c .before)) ∙ c .if4 .taken
+
+tick-passed : (c : tie.Else5 Inv-loop μ-loop) → tick (c .before .before .before .before .before .before .before .before) ≡ true
 tick-passed c = passed (c .before .tick-tested .ensures) (c .if5 .left)
 
-five : (c : tie.Then6 Inv-loop μ-loop) → let l = c .before .before .before .before .before .before in kindOf (turn l) (l .loop .i) ≡ 5
-five c = sym (c .before .before .get .ensures) ∙ c .if6 .taken
+five : (c : tie.Then6 Inv-loop μ-loop) → let l = c .before .before .before .before .before .before .before in kindOf (turn l) (l .loop .i) ≡ 5
+five c = sym (c .before .before .before .get .ensures) ∙ c .if6 .taken
 
-date-passed : (c : tie.Else7 Inv-loop μ-loop) → date (c .before .before .before .before .before .before .before .before) ≡ true
+date-passed : (c : tie.Else7 Inv-loop μ-loop) → date (c .before .before .before .before .before .before .before .before .before) ≡ true
 date-passed c = passed (c .before .date-tested .ensures) (c .if7 .left)
 
 -- ---- the needs
@@ -113,15 +120,18 @@ get-requires c κs = omega arith
 add-i : tie.Need-add-i Inv-loop μ-loop
 add-i c = omega arith
 
+waits-for-ticks-requires : tie.Need-waits-for-ticks-requires Inv-loop μ-loop
+waits-for-ticks-requires c κs = search needs
+
 tick-tested-requires : tie.Need-tick-tested-requires Inv-loop μ-loop
-tick-tested-requires c κs = let inv = c .before .before .before .before .before .loop .inv in (inv .long, inv .ticks)
+tick-tested-requires c κs = let inv = c .before .before .before .before .before .before .loop .inv in (inv .long, inv .ticks)
 
 returns-4 : tie.Need-returns-4 Inv-loop μ-loop
 returns-4 c =
     let kind = c .before .before in
-    let slot = kind .before .before in
+    let slot = kind .before .before .before in
     let l = slot .before .before .before in
-    tick-fails (l .loop .inv) (in-range (slot .before .before)) (slot-passed slot) (four kind)
+    tick-fails (l .loop .inv) (in-range (slot .before .before)) (slot-passed slot) (ticking kind)
     (failed {b = tick l} (c .before .tick-tested .ensures) (c .if5 .taken))
 
 get-requires-2 : tie.Need-get-requires-2 Inv-loop μ-loop
@@ -137,25 +147,25 @@ get-requires-3 : tie.Need-get-requires-3 Inv-loop μ-loop
 get-requires-3 c κs = omega (arith, in-ticks _ _ _ (tick-passed (c .before .before)))
 
 loop-less : tie.Need-loop-less Inv-loop μ-loop
-loop-less c = let l = c .before .before .before .before .before .before .before .before .before in fewer (l .before .loop .inv) (in-range l)
+loop-less c = let l = c .before .before .before .before .before .before .before .before .before .before in fewer (l .before .loop .inv) (in-range l)
 
 loop-again : tie.Need-loop-again Inv-loop μ-loop
 loop-again c =
     let step = c .before .before .before in
     let kind = step .before .before in
-    let slot = kind .before .before in
+    let slot = kind .before .before .before in
     let l = slot .before .before .before in
     let fits = l .before .shared-slice-known5 .given (2 + 8 * l .loop .tick-at + 2) in
     rw (c .get3 .ensures, c .before .wide .ensures, c .before .before .get2 .ensures)
-    (pass-tick (l .loop .inv) (in-range (slot .before .before)) (slot-passed slot) (four kind) (tick-passed step) (fits .fits))
+    (pass-tick (l .loop .inv) (in-range (slot .before .before)) (slot-passed slot) (ticking kind) (tick-passed step) (fits .fits))
 
 date-tested-requires : tie.Need-date-tested-requires Inv-loop μ-loop
-date-tested-requires c κs = c .before .before .before .before .before .before .loop .inv .long
+date-tested-requires c κs = c .before .before .before .before .before .before .before .loop .inv .long
 
 returns-5 : tie.Need-returns-5 Inv-loop μ-loop
 returns-5 c =
     let kind = c .before .before in
-    let slot = kind .before .before .before in
+    let slot = kind .before .before .before .before in
     let l = slot .before .before .before in
     date-fails (l .loop .inv) (in-range (slot .before .before)) (slot-passed slot) (five kind)
     (failed {b = date l} (c .before .date-tested .ensures) (c .if7 .taken))
@@ -167,25 +177,25 @@ get-requires-5 : tie.Need-get-requires-5 Inv-loop μ-loop
 get-requires-5 c κs = omega (arith, in-dates _ _ _ (date-passed (c .before)))
 
 loop-less-2 : tie.Need-loop-less-2 Inv-loop μ-loop
-loop-less-2 c = let l = c .before .before .before .before .before .before .before .before .before in fewer (l .before .loop .inv) (in-range l)
+loop-less-2 c = let l = c .before .before .before .before .before .before .before .before .before .before in fewer (l .before .loop .inv) (in-range l)
 
 loop-again-2 : tie.Need-loop-again-2 Inv-loop μ-loop
 loop-again-2 c =
     let step = c .before .before in
     let kind = step .before .before in
-    let slot = kind .before .before .before in
+    let slot = kind .before .before .before .before in
     rw (c .get5 .ensures, c .before .get4 .ensures)
     (pass-date (slot .before .before .before .loop .inv) (in-range (slot .before .before)) (slot-passed slot) (five kind) (date-passed step))
 
 loop-less-3 : tie.Need-loop-less-3 Inv-loop μ-loop
-loop-less-3 c = let l = c .before .before .before .before .before in fewer (l .before .loop .inv) (in-range l)
+loop-less-3 c = let l = c .before .before .before .before .before .before in fewer (l .before .loop .inv) (in-range l)
 
 loop-again-3 : tie.Need-loop-again-3 Inv-loop μ-loop
 loop-again-3 c =
-    let slot = c .before .before .before in
-    let kind = c .before .before .get .ensures in
+    let kind = c .before .before in
+    let slot = kind .before .before in
     pass-other (slot .before .before .before .loop .inv) (in-range (slot .before .before)) (slot-passed slot)
-    (λ e. c .before .if4 .left (kind ∙ e)) (λ e. c .if6 .left (kind ∙ e))
+    (sym (asked kind) ∙ c .before .if4 .left) (λ e. c .if6 .left (kind .before .get .ensures ∙ e))
 
 returns-6 : tie.Need-returns-6 Inv-loop μ-loop
 returns-6 c = sym (at-end (c .before .before .loop .inv) (omega arith) ∙ simp (ne-eqb _ 0 (c .if8 .taken)))
@@ -218,6 +228,7 @@ is-sound-spec =
     returns-3
     get-requires
     add-i
+    waits-for-ticks-requires
     tick-tested-requires
     returns-4
     get-requires-2

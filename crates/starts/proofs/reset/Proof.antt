@@ -1,8 +1,8 @@
--- `starts::reset` meets its contract: the slot starts again with the words that it has stored. Assumes nothing.
+-- `starts::reset` meets its contract: the slot starts again as it was, with the words that it has stored. Assumes nothing.
 use borrow.Author.Needs.{needs}
 use borrow.Author.Tests.{not-false}
 use mathlib.Core.List.{List, [], _∷_}
-use mathlib.Core.Path.{refl}
+use mathlib.Core.Path.{refl, sym, _∙_}
 use Prim.Native.Nat.{ℕ}
 use native.Mathlib.Omega.{arith}
 use Rattle.model.specs.declared.Status.the-variants.{NotDefined}
@@ -54,17 +54,20 @@ returns-2 c =
     refuses _ _ NotDefined 2 (x .tested, (x .rule, tt))
     (not-same (timed x (c .before .before .get .ensures) (c .before .was-by-ticks .ensures)) (c .if1 .taken)) refl
 
+last-mode-requires : tie.Need-last-mode-requires
+last-mode-requires c κs = sym (c .before .was-by-ticks .ensures) ∙ not-false _ (c .if1 .left)
+
 get-requires-2 : tie.Need-get-requires-2
-get-requires-2 c κs = (omega arith, at (c .before .before .before .before .before .before) .inside)
+get-requires-2 c κs = (omega arith, at (c .before .before .before .before .before .before .before) .inside)
 
 get-requires-3 : tie.Need-get-requires-3
-get-requires-3 c κs = (omega arith, at (c .before .before .before .before .before .before .before .before) .inside)
+get-requires-3 c κs = (omega arith, at (c .before .before .before .before .before .before .before .before .before) .inside)
 
 get-requires-4 : tie.Need-get-requires-4
-get-requires-4 c κs = (omega arith, at (c .before .before .before .before .before .before .before .before .before .before) .inside)
+get-requires-4 c κs = (omega arith, at (c .before .before .before .before .before .before .before .before .before .before .before) .inside)
 
 start-requires : tie.Need-start-requires
-start-requires c κs = at (c .before .before .before .before .before .before .before .before .before .before .before .before) .place
+start-requires c κs = at (c .before .before .before .before .before .before .before .before .before .before .before .before .before) .place
 
 same-length-3 : tie.Need-same-length-3
 same-length-3 c = search needs
@@ -74,11 +77,14 @@ returns-3 c =
     let user = c .before .before .before .before in
     let routine = user .before .before in
     let ticks = routine .before .before in
-    let again = ticks .before .before in
-    let x = at (again .before .before .before .before .before) in
-    let by-ticks = not-same (timed x (again .before .before .get .ensures) (again .before .was-by-ticks .ensures)) (again .if1 .left) in
+    let mode = ticks .before .before in
+    let again = mode .before in
+    let kind = again .before .before in
+    let x = at (kind .before .before .before) in
+    let by-ticks = not-same (timed x (kind .get .ensures) (again .before .was-by-ticks .ensures)) (again .if1 .left) in
     done _ _ (0 ∷ []) _ [] (x .tested, (x .rule, (by-ticks, tt))) refl
-    (reset-is x (not-false _ by-ticks) (c .before .before .start .ensures) (ticks .get2 .ensures) (routine .get3 .ensures) (user .get4 .ensures)) refl
+    (reset-is x (kind .get .ensures) (mode .last-mode .ensures) (c .before .before .start .ensures)
+    (ticks .get2 .ensures) (routine .get3 .ensures) (user .get4 .ensures)) refl
 
 pub reset-spec : {M : Type 1} → statement M
 reset-spec =
@@ -93,6 +99,7 @@ reset-spec =
     was-by-ticks-requires
     same-length-2
     returns-2
+    last-mode-requires
     get-requires-2
     get-requires-3
     get-requires-4

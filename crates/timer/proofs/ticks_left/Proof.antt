@@ -1,9 +1,13 @@
--- `timer::ticks_left` meets its contract: a timer of kind 4 stands in the interval chain, any other does not. Assumes nothing.
+-- `timer::ticks_left` meets its contract: a timer that waits for ticks stands in the interval chain, any other does not. Assumes nothing.
 use borrow.Author.Needs.{needs}
 use mathlib.Core.List.{List, [], _∷_}
-use mathlib.Core.Path.{refl, sym, _∙_}
+use mathlib.Core.Path.{_≡_, refl, sym, ap, _∙_}
 use Prim.Native.Nat.{ℕ}
 use native.Mathlib.Omega.{arith}
+use borrow.Author.Tests.{not-true, not-false}
+use Rattle.model.specs.declared.Chain.the-variants.{ByTicks}
+use Rattle.model.specs.Kinds.{waitsIn}
+use Rattle.model.specs.Words.{kindOf}
 use Rattle.answers.proofs.Replies.{done}
 use Rattle.answers.proofs.Openings.{refuses-as}
 use Rattle.opening.specs.Ids.{Named}
@@ -19,6 +23,12 @@ module _ (o : tie.After-opened) where
 
   at : Named t (o .before .before .before .before .args .id) (o .opened .given .0 .0)
   at = o .before .before .open-timer .ensures .holds _ (o .opened .given .1)
+
+-- ---- it waits for ticks, or it does not
+
+asked : (e : tie.After-waits-for-ticks) → let o = e .before .before .before in
+    e .waits-for-ticks .result ≡ waitsIn ByTicks (kindOf (t o) (o .opened .given .0 .0))
+asked e = e .waits-for-ticks .ensures ∙ ap (waitsIn ByTicks) (e .before .get .ensures)
 
 -- ---- the needs
 
@@ -37,20 +47,22 @@ returns c = refuses-as _ _ (c .before .before .open-timer .ensures) (c .enum-tol
 get-requires : tie.Need-get-requires
 get-requires c κs = (omega arith, at (c .before) .inside)
 
+waits-for-ticks-requires : tie.Need-waits-for-ticks-requires
+waits-for-ticks-requires c κs = search needs
+
 returns-2 : tie.Need-returns-2
 returns-2 c =
-    let o = c .before .before .before in
-    let x = at o in
-    done _ _ (0 ∷ []) _ [] (x .tested, (x .rule, tt)) (no-ticks x (λ z. omega (arith, c .if1 .taken, c .before .get .ensures, z))) (sym (x .place .holds .is)) refl
+    let x = at (c .before .before .before .before) in
+    done _ _ (0 ∷ []) _ [] (x .tested, (x .rule, tt)) (no-ticks x (sym (asked (c .before)) ∙ not-true _ (c .if1 .taken))) (sym (x .place .holds .is)) refl
 
 ticks-to-requires : tie.Need-ticks-to-requires
 ticks-to-requires c κs =
-    let x = at (c .before .before .before) in
-    (x .place .holds, ticks-met x (sym (c .before .get .ensures) ∙ c .if1 .left))
+    let x = at (c .before .before .before .before) in
+    (x .place .holds, ticks-met x (sym (asked (c .before)) ∙ not-false _ (c .if1 .left)))
 
 returns-3 : tie.Need-returns-3
 returns-3 c =
-    let x = at (c .before .before .before .before) in
+    let x = at (c .before .before .before .before .before) in
     done _ _ (_ ∷ []) _ [] (x .tested, (x .rule, tt)) (some-ticks x (c .ticks-to .ensures)) (sym (x .place .holds .is)) refl
 
 pub ticks-left-spec : {M : Type 1} → statement M
@@ -62,6 +74,7 @@ ticks-left-spec =
     enum-told
     returns
     get-requires
+    waits-for-ticks-requires
     returns-2
     ticks-to-requires
     returns-3)

@@ -2,9 +2,9 @@
 -- Assumes nothing.
 use mathlib.Core.Path.{_∙_}
 use native.Mathlib.Omega.{arith}
-use Rattle.model.specs.declared.Chain.the-variants.{ByTicks, ByDate}
+use Rattle.model.specs.declared.Mode.the-variants.{Every}
 use Rattle.word_checks.proofs.BooleanTests.{passed, failed}
-use Rattle.word_checks.proofs.SlotTests.{kind-fails, blank-fails, name-fails, routine-fails, links-fail, free-name, new-name, waiting-ticks, waiting-date, idle-interval}
+use Rattle.word_checks.proofs.SlotTests.{kind-fails, blank-fails, name-fails, routine-fails, free-name, new-name, waiting-ticks, waiting-date, waiting-every, idle, idle-low}
 use borrow.Author.Needs.{needs}
 use Rattle.word_checks.proofs.slot_tested.Statement.{statement}
 use Rattle.word_checks.proofs.slot_tested.Tie as tie
@@ -47,26 +47,26 @@ get-requires-4 : tie.Need-get-requires-4
 get-requires-4 c κs = search needs
 
 returns-7 : tie.Need-returns-7
-returns-7 c = rw (c .before .get4 .ensures) (waiting-date _ _ (omega arith) (omega arith) (omega arith))
+returns-7 c = rw (c .get4 .ensures) (waiting-date _ _ (omega arith) (omega arith) (omega arith))
 
-is-unlinked-requires : tie.Need-is-unlinked-requires
-is-unlinked-requires c κs = search needs
+idle-tested-requires : tie.Need-idle-tested-requires
+idle-tested-requires c κs = search needs
 
 returns-8 : tie.Need-returns-8
 returns-8 c =
-    let kind = c .before .before .before .before .before .before .before .before .before .before .get .ensures in
-    links-fail _ _ (λ e. c .before .before .before .before .if6 .left (kind ∙ e)) (λ e. c .before .before .if7 .left (kind ∙ e))
-    (failed (c .before .is-unlinked .ensures) (c .if8 .taken))
+    c .idle-tested .ensures
+    ∙ idle-low _ _ (c .before .before .before .before .before .before .before .before .before .get .ensures) (omega arith) (omega arith) (omega arith) (omega arith)
 
 returns-9 : tie.Need-returns-9
-returns-9 c =
-    let links = passed (c .before .before .is-unlinked .ensures) (c .before .if8 .left) in
-    rw (c .before .before .before .before .get4 .ensures) (idle-interval _ _ ByTicks (omega arith) (omega arith) (omega arith) links)
+returns-9 c = waiting-every _ _ (omega arith) (omega arith) (omega arith)
+
+idle-tested-requires-2 : tie.Need-idle-tested-requires-2
+idle-tested-requires-2 c κs = search needs
 
 returns-10 : tie.Need-returns-10
 returns-10 c =
-    let links = passed (c .before .before .before .is-unlinked .ensures) (c .before .before .if8 .left) in
-    rw (c .before .before .before .before .before .get4 .ensures) (idle-interval _ _ ByDate (omega arith) (omega arith) (omega arith) links)
+    c .idle-tested2 .ensures
+    ∙ idle _ _ Every (c .before .before .before .before .before .before .before .before .before .before .before .get .ensures) (omega arith) (omega arith) (omega arith)
 
 returns-11 : tie.Need-returns-11
 returns-11 c = kind-fails _ _ (omega arith)
@@ -87,8 +87,9 @@ slot-tested-spec =
     returns-6
     get-requires-4
     returns-7
-    is-unlinked-requires
+    idle-tested-requires
     returns-8
     returns-9
+    idle-tested-requires-2
     returns-10
     returns-11)

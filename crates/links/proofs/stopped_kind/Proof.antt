@@ -1,0 +1,20 @@
+-- `links::stopped_kind` meets its contract: each kind that is named, and all others, which stay. Assumes nothing.
+use Rattle.links.proofs.StoppedKinds.{stays-as}
+use borrow.Author.Needs.{needs}
+use Rattle.links.proofs.stopped_kind.Statement.{statement}
+use Rattle.links.proofs.stopped_kind.Tie as tie
+
+returns : tie.Need-returns
+returns c = search needs
+
+returns-2 : tie.Need-returns-2
+returns-2 c = search needs
+
+returns-3 : tie.Need-returns-3
+returns-3 c = search needs
+
+returns-4 : tie.Need-returns-4
+returns-4 c = stays-as _ (c .before .before .if1 .left) (c .before .if2 .left) (c .if3 .left)
+
+pub stopped-kind-spec : {M : Type 1} → statement M
+stopped-kind-spec = tie.close (tie.spec returns returns-2 returns-3 returns-4)
