@@ -59,11 +59,11 @@ extern "C" {
 #define HC_INVALID_SIZE 8u     /* lay out: fewer than 10 + 8N words; plan: fewer words of list than jobs */
 #define HC_INVALID_ADDRESS 9u  /* fire after, fire when, fire every: routine 0 */
 #define HC_INVALID_NUMBER 10u  /* fire after, fire every: ticks 0; lay out, plan, plan check: a number outside
-                                  its limits */
+                                  its limits; plan check: not one start a job */
 #define HC_NOT_DEFINED 11u     /* fire when, get clock: clock not set; reset: not last started by interval */
 #define HC_UNSATISFIED 13u     /* plan check: the plan does not fit; plan: no plan does */
 #define HC_INVALID_CLOCK 20u   /* set clock, fire when: date not valid; fire when: not after the present second */
-#define HC_NOT_SOUND 100u      /* any call but lay out: the table is not sound */
+#define HC_NOT_SOUND 100u      /* any call on a table but lay out: it is not sound */
 #define HC_LIST_TOO_SHORT 101u /* tick, set clock: fewer than 3N words of list */
 
 /* Words that a table of so many slots takes, and words of list that a tick or set clock on it needs. */
@@ -77,8 +77,8 @@ struct hc_wall_time {
 };
 
 /* Each call gives its status as the result: HC_NOT_SOUND where the table is not sound (but for hc_lay_out), then the
- * first that applies in the order named with the call, else HC_SUCCESSFUL. An answer goes through the last pointer; on a
- * refusal it is 0, and table and list stay as they were. */
+ * first that applies in the order named with the call, else HC_SUCCESSFUL. The answer of a call on a table goes through the
+ * last pointer; on a refusal it is 0, and table and list stay as they were. */
 
 /* Makes a table of so many free slots, clock not set; words is the length lent.
  * HC_INVALID_NUMBER: slots not 1 to 255, or ticks_per_second not 1 to 1000. HC_INVALID_SIZE: fewer than
@@ -161,9 +161,10 @@ uint32_t hc_plan_check(const uint32_t *jobs, size_t job_words, uint32_t break_ti
                        size_t count);
 
 /* Plans the break: each job starts where the jobs of its bench ahead of it end. Writes the starts to the list; list words
- * after those stay. A plan is found wherever there is one.
- * HC_INVALID_NUMBER: as for hc_plan_check. HC_INVALID_SIZE: fewer words of list than jobs. HC_UNSATISFIED: there is no plan
- * that hc_plan_check accepts; then a bench's jobs are together longer than the break. */
+ * after those stay. A plan is found wherever there is one. On a refusal the whole list stays.
+ * HC_INVALID_NUMBER: more than HC_MAX_JOBS jobs, half a job, or a bench, a length or a break outside its limits.
+ * HC_INVALID_SIZE: fewer words of list than jobs. HC_UNSATISFIED: there is no plan that hc_plan_check accepts; then a
+ * bench's jobs are together longer than the break. */
 uint32_t hc_plan(const uint32_t *jobs, size_t job_words, uint32_t break_ticks, uint32_t *starts, size_t starts_words);
 
 #ifdef __cplusplus

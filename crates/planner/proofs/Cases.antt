@@ -2,6 +2,7 @@
 use mathlib.Core.Path.{_≡_, refl}
 use Prim.Native.Nat.{ℕ, zero, suc}
 use mathlib.Core.List.{List, [], _∷_, _++_, map}
+use lib.ListN.{replicate}
 use Rattle.plans.specs.Plans.{jobWithin, jobsWithin, accepts}
 use Rattle.plans.specs.Checker.{checked}
 use Rattle.planner.specs.Proposal.{proposal}
@@ -35,6 +36,7 @@ cases =
     call (1 ∷ 3 ∷ 2 ∷ 5 ∷ 1 ∷ 4 ∷ []) 7 lent 0 (0 ∷ 0 ∷ 3 ∷ [])
     ∷ call (4 ∷ 3 ∷ 4 ∷ 5 ∷ []) 8 lent 0 (0 ∷ 3 ∷ 9 ∷ [])
     ∷ call (3 ∷ 2 ∷ []) 2 lent 0 (0 ∷ 8 ∷ 9 ∷ [])
+    ∷ call (1 ∷ 2 ∷ 2 ∷ 3 ∷ 1 ∷ 4 ∷ 3 ∷ 1 ∷ 4 ∷ 5 ∷ 2 ∷ 6 ∷ 1 ∷ 1 ∷ []) 9 (replicate 8 9) 0 (0 ∷ 0 ∷ 2 ∷ 0 ∷ 0 ∷ 3 ∷ 6 ∷ 9 ∷ [])
     -- one tick too few, on bench 1 and on bench 4: a refusal leaves the list
     ∷ call (1 ∷ 3 ∷ 2 ∷ 5 ∷ 1 ∷ 4 ∷ []) 6 lent 13 lent
     ∷ call (4 ∷ 3 ∷ 4 ∷ 5 ∷ []) 7 lent 13 lent
@@ -52,7 +54,7 @@ cases =
     ∷ call (short 3 ++ (5 ∷ 1 ∷ [])) 3 lent 10 lent
     ∷ call (short 3 ++ (3 ∷ 0 ∷ [])) 3 lent 10 lent
     ∷ call (short 3 ++ (3 ∷ 1000001 ∷ [])) 3 lent 10 lent
-    ∷ call (short 3 ++ (3 ∷ [])) 3 lent 10 lent
+    ∷ call (short 4 ++ (3 ∷ [])) 3 lent 10 lent
     ∷ call (short 4) 1000001 lent 10 lent
     -- the longest job in the longest break
     ∷ call (3 ∷ 1000000 ∷ 4 ∷ 1000000 ∷ []) 1000000 lent 0 (0 ∷ 0 ∷ 9 ∷ [])
