@@ -2,12 +2,15 @@
 -- status with its other side, answers that no clause of demand 3 speaks of, and periodic timers. Assumes nothing.
 use mathlib.Core.Path.{_≡_, refl}
 use Prim.Native.Nat.{ℕ, _*_}
+use mathlib.Core.Option.{some}
 use mathlib.Core.List.{List, [], _∷_, _++_, map}
 use lib.ListN.{replicate}
 use Rattle.calendar.specs.Calendar.{monthsOf, years, valid, secondsOf, dateOf}
 use Rattle.model.specs.Calls.{Call, layOut, create, ident, cancel, delete, fireAfter, fireWhen, fireEvery, reset, ticksLeft, tick, setClock, getClock}
 use Rattle.model.specs.Sound.{headerSound, slotSound, chainSound, ticksSound, datesSound, sound}
 use Rattle.model.specs.Outcome.{statusOn, outcome}
+use Rattle.model.specs.Kinds.{After, Every}
+use Rattle.model.specs.History.{startOf, laidOutFor, changes, oneTick, Placed, starts}
 use Rattle.model.specs.Demand.{after}
 use Rattle.model.proofs.Cases.{Case, calls, computed, date, nine, unlent}
 
@@ -150,6 +153,14 @@ workedCases =
 pub worked : map computed workedCases ≡ workedCases
 unfolding monthsOf years valid secondsOf dateOf headerSound slotSound chainSound ticksSound datesSound sound statusOn outcome
 worked = refl
+
+-- ---- the order among equals
+
+-- Every 2 ticks and, a tick later, once for 3: with the second tick the first goes back, and is behind the other.
+pub turned : map (λ (g : Placed). g .begun .id)
+    (starts (oneTick ∷ changes two (some (startOf two After 3 8 80)) ∷ oneTick ∷ changes one (some (startOf one Every 2 7 70)) ∷ laidOutFor 10 ∷ []))
+    ≡ two ∷ one ∷ []
+turned = refl
 
 -- ---- the guard's nine ticks, table by table
 
