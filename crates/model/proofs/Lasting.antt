@@ -24,7 +24,7 @@ use Rattle.model.proofs.Slots.{at-same, at-other, length-put, field-put
 use Rattle.model.proofs.WellFormed.{timesIn}
 use Rattle.model.proofs.Chains.{times-without}
 use Rattle.model.proofs.Searches.{found}
-use Rattle.model.proofs.GoingBack.{with-chain-slots}
+use Rattle.model.proofs.GoingOn.{with-chain-slots}
 use Rattle.model.proofs.Steps.{fire-slots}
 use Rattle.model.proofs.AcceptedCalls.{Named, named, named-true, Accepted, accepted-facts}
 use Rattle.model.proofs.OutcomeLaws.{status-is, outcome-accepted}

@@ -16,12 +16,13 @@ pub mod HoldsSound
 pub mod ClockSteps
 pub mod FiredSlots
 pub mod Searches
-pub mod GoingBack
+pub mod GoingOn
 pub mod Steps
 pub mod AcceptedCalls
 pub mod KeptWellFormed
 pub mod HistoryLaws
 pub mod ChainLaws
+pub mod QueueLaws
 pub mod ClockLaws
 pub mod Simulation
 pub mod ClockSimulation

@@ -6,23 +6,24 @@ use native.Mathlib.Nat.{mul-mod-left, div-add-mod', add-zero}
 use native.Mathlib.Omega.{arith}
 use mathlib.Core.Bool.{Bool, true, false, not, _&&_, _||_, and-true}
 use mathlib.Core.Option.{Option, none, some}
-use mathlib.Core.List.{List, [], _∷_, _++_, map, List·Memᴰ, List·Memᴰ·head, List·Memᴰ·tail, Memᴰ·append-left, Memᴰ·append-right, Memᴰ·map, Memᴰ·cast, head-eq-of-cons-eq, tail-eq-of-cons-eq, nil≢cons, cons≢nil}
+use mathlib.Core.List.{List, [], _∷_, _++_, map, List·Memᴰ, List·Memᴰ·head, List·Memᴰ·tail, Memᴰ·append-left, Memᴰ·append-right, Memᴰ·map, Memᴰ·cast}
+use lib.ListN.{take}
 use lib.Dec.{leb, eqb}
-use borrow.Author.Tests.{leb-true, leb-false, eqb-true, eqb-false, eq-eqb, ne-eqb}
+use borrow.Author.Tests.{leb-true, leb-false, eq-eqb, ne-eqb}
 use Rattle.calendar.specs.declared.WallTime.{WallTime}
 use Rattle.calendar.specs.Calendar.{secondsOf}
 use Rattle.model.specs.Lists.{goesBehind, keep, any, place, All, Sorted, InOrder}
 use Rattle.model.specs.Calls.{Call, layOut, tick, setClock, lentTo}
-use Rattle.model.specs.Kinds.{Chain, ByTicks, ByDate, After, When, Every, chainFor, isPeriodic, sameChain}
+use Rattle.model.specs.Kinds.{Chain, ByTicks, ByDate, After, When, Every, chainFor, isPeriodic, isServer, sameChain}
 use Rattle.model.specs.State.{withClock, Fired}
-use Rattle.model.specs.History.{Start, startOf, Event, changes, oneTick, eventOf, clockSetTo, startIn, isTick, ticks, past, movesClock, Placed, withEvent, placed, starts, ends, wasEnded, isDue, wasDueIn, wasDue, fires, goesBack, inTurn, inChain, ticksLeftOrDate, entry}
+use Rattle.model.specs.History.{Start, startOf, Event, changes, oneTick, eventOf, clockSetTo, startIn, isTick, ticks, past, movesClock, Placed, withEvent, placed, starts, ends, wasEnded, isDue, wasDueIn, wasDue, comesDue, fires, goesBack, inTurn, inChain, ticksLeftOrDate, entryOf, entry, servesIn, IsQueue}
 use Rattle.model.specs.Directives.{clockAt, effect}
 use Rattle.model.specs.Words.{writtenOver, links, read}
 use Rattle.model.specs.Sound.{sound}
 use Rattle.model.specs.Outcome.{Outcome, statusOn, outcome}
 use Rattle.model.specs.Demand.{after, Begins, eventsAfter}
 use Rattle.model.proofs.ListLaws.{cases, clash, both, all-map, all-append, all-keep, all-passed, all-zip, keep-none}
-use Rattle.model.proofs.Order.{order, orderOn, all-orderOn, order-in-order}
+use Rattle.model.proofs.Order.{order, orderOn, all-orderOn, order-in-order, one-order}
 use Rattle.model.proofs.ReadBack.{links-is}
 use Rattle.model.proofs.HistoryLaws.{all-starts, fewer}
 use Rattle.model.proofs.KindLaws.{dated-not-again}
@@ -32,49 +33,7 @@ use Rattle.model.proofs.OutcomeLaws.{outcome-accepted, outcome-status}
 use Rattle.model.proofs.CallTables.{effect-holds}
 use Rattle.model.proofs.Demand3.{demand3}
 
--- ---- 1. The order leaves one list only.
-
-module _ {A : Type 0} (key : A → ℕ) where
-  above : (k : ℕ) (x : A) (l : List A) → k < key x → Sorted key (x ∷ l) → keep (λ y. eqb (key y) k) (x ∷ l) ≡ []
-  above k x l p s = keep-none (λ y. eqb (key y) k) (x ∷ l)
-      (ne-eqb (key x) k (λ e. omega arith), all-map (λ y q. ne-eqb (key y) k (λ e. omega arith)) l (s .0))
-
-  own : (x : A) (l : List A) → keep (λ y. eqb (key y) (key x)) (x ∷ l) ≡ x ∷ keep (λ y. eqb (key y) (key x)) l
-  own x l = rw (eq-eqb (key x) (key x) refl)
-
-  one-sorted : (l m : List A) → Sorted key l → Sorted key m → ((k : ℕ) → keep (λ x. eqb (key x) k) l ≡ keep (λ x. eqb (key x) k) m) → l ≡ m
-  one-sorted [] [] p q h = refl
-  one-sorted [] (y ∷ ys) p q h = absurd (nil≢cons (h (key y) ∙ own y ys))
-  one-sorted (x ∷ xs) [] p q h = absurd (cons≢nil (sym (own x xs) ∙ h (key x)))
-  one-sorted (x ∷ xs) (y ∷ ys) p q h =
-      cases (eqb (key y) (key x))
-      (λ e.
-      let same : x ∷ keep (λ z. eqb (key z) (key x)) xs ≡ y ∷ keep (λ z. eqb (key z) (key x)) ys =
-      sym (own x xs) ∙ h (key x) ∙ rw e in
-      ap₂ {C = List A} (λ a r. a ∷ r) (head-eq-of-cons-eq same)
-      (one-sorted xs ys (p .1) (q .1) (λ k.
-      cases (eqb (key x) k)
-      (λ f.
-      let g = eqb-true (key x) k f in
-      subst (λ (j : ℕ). keep (λ z. eqb (key z) j) xs ≡ keep (λ z. eqb (key z) j) ys) g (tail-eq-of-cons-eq same))
-      (λ f.
-      let f′ : eqb (key y) k ≡ false = ap (λ (j : ℕ). eqb j k) (eqb-true (key y) (key x) e) ∙ f in
-      sym (rw f) ∙ h k ∙ rw f′))))
-      (λ e.
-      cases (leb (key x) (key y))
-      (λ f.
-      let lt : key x < key y = below (key x) (key y) (leb-true (key x) (key y) f) (eqb-false (key y) (key x) e) in
-      absurd (cons≢nil (sym (own x xs) ∙ h (key x) ∙ above (key x) y ys lt q)))
-      (λ f.
-      absurd (nil≢cons (sym (above (key y) x xs (leb-false (key x) (key y) f) p) ∙ h (key y) ∙ own y ys))))
-    where
-      below : (a b : ℕ) → a ≤ b → (b ≡ a → ⊥) → a < b
-      below a b p q = omega arith
-
-  pub one-order : (l m n : List A) → InOrder key l m → InOrder key l n → m ≡ n
-  one-order l m n p q = one-sorted m n (p .rising) (q .rising) (λ k. p .same k ∙ sym (q .same k))
-
--- ---- 2. A start of the list is a place in it.
+-- ---- 1. A start of the list is a place in it.
 
 pub record From (es : List Event) (g : Placed) : Type 0 where
   pub earlier : List Event
@@ -98,24 +57,29 @@ starts-from (e ∷ es) =
     go none f = tt
     go (some s) f = (record { earlier = es; event = e; split = refl; is-start = f; upto = refl }, tt)
 
--- ---- 3. Nothing is listed but what was started, is due there and was not ended.
+-- ---- 2. Nothing is listed but what was started, is due there and was not ended.
 
 pub record Listed (es : List Event) (e : Event) (g : Placed) : Type 0 where
   pub place : From es g
   pub not-ended : wasEnded g ≡ false
   pub not-due-before : isPeriodic (g .begun .mode) ≡ false → wasDue g ≡ false
   pub due : isDue e g ≡ true
+  pub no-server : isServer (g .begun .mode) ≡ false
 
 listed-of : (es : List Event) (e : Event) (g : Placed) → From es g → fires e g ≡ true → Listed es e g
 listed-of es e g p f =
-    let all-three = three (wasEnded g) (isPeriodic (g .begun .mode)) (wasDue g) (isDue e g) f in
-    record { place = p; not-ended = all-three .0; not-due-before = all-three .1; due = all-three .2 }
+    let r = all-four (wasEnded g) (isPeriodic (g .begun .mode)) (wasDue g) (isDue e g) (isServer (g .begun .mode)) f in
+    record { place = p; not-ended = r .0; not-due-before = r .1; due = r .2; no-server = r .3 }
   where
-    three : (a p b c : Bool) → ((not a && (p || not b)) && c) ≡ true → (a ≡ false) × (p ≡ false → b ≡ false) × (c ≡ true)
-    three true p b c f = clash (sym f)
-    three false true b c f = (refl, λ e. clash e, f)
-    three false false true c f = clash (sym f)
-    three false false false c f = (refl, λ e. refl, f)
+    all-four : (a p b c q : Bool) → (((not a && (p || not b)) && c) && not q) ≡ true → (a ≡ false) × (p ≡ false → b ≡ false) × (c ≡ true) × (q ≡ false)
+    all-four true p b c q f = clash (sym f)
+    all-four false true b true true f = clash (sym f)
+    all-four false true b true false f = (refl, λ e. clash e, refl, refl)
+    all-four false true b false q f = clash (sym f)
+    all-four false false true c q f = clash (sym f)
+    all-four false false false true true f = clash (sym f)
+    all-four false false false true false f = (refl, λ e. refl, refl, refl)
+    all-four false false false false q f = clash (sym f)
 
 pub only-due : (k : Chain) (es : List Event) (e : Event) (l : List Placed) → InOrder ticksLeftOrDate (keep (inChain k) (keep (fires e) (starts es))) l
     → All (Listed es e) l
@@ -128,7 +92,7 @@ only-due k es e l o =
     S : List Placed
     S = keep (fires e) (starts es)
 
--- ---- 4. A start for n ticks fires at the nth tick after it, unless it was ended, and neither earlier nor later.
+-- ---- 3. A start for n ticks fires at the nth tick after it, unless it was ended, and neither earlier nor later.
 
 -- the start s after the events P, with Q after it
 abbrev pub startAt : List Event → ℕ → Start → List Event → Placed
@@ -151,7 +115,8 @@ module _ (P Q : List Event) (id timer n r u : ℕ) (some-ticks : 0 < n) where
   pub at-nth-tick : (e : Event) → fires e (startAt P id (forTicks timer n r u) Q)
       ≡ (not (any (ends timer) Q) && (isTick e && eqb (suc (ticks Q)) n))
   at-nth-tick e =
-      cases (leb n (ticks Q))
+      and-true (comesDue e (startAt P id (forTicks timer n r u) Q))
+      ∙ cases (leb n (ticks Q))
       (λ f.
       let past : n ≤ ticks Q = leb-true n (ticks Q) f in
       let was : wasDueIn (forTicks timer n r u) (changes id (some (forTicks timer n r u)) ∷ P) Q ≡ true =
@@ -192,9 +157,10 @@ at-date P Q id timer d r u e =
 pub at-every-nth : (P Q : List Event) (id timer n r u : ℕ) (e : Event) → fires e (startAt P id (startOf timer Every n r u) Q)
     ≡ (not (any (ends timer) Q) && (isTick e && eqb (suc (ticks Q) % n) 0))
 at-every-nth P Q id timer n r u e =
-    ap (λ (b : Bool). b && (isTick e && eqb (suc (ticks Q) % n) 0)) (and-true (not (any (ends timer) Q)))
+    and-true (comesDue e (startAt P id (startOf timer Every n r u) Q))
+    ∙ ap (λ (b : Bool). b && (isTick e && eqb (suc (ticks Q) % n) 0)) (and-true (not (any (ends timer) Q)))
 
--- ---- 5. What fires is listed.
+-- ---- 4. What fires is listed.
 
 mem-keep : {A : Type 0} (p : A → Bool) {x : A} (l : List A) → p x ≡ true → List·Memᴰ x l → List·Memᴰ x (keep p l)
 mem-keep p (y ∷ ys) e (List·Memᴰ·head q) = rw (ap p (sym q) ∙ e) (List·Memᴰ·head q)
@@ -243,12 +209,12 @@ fires-listed k P Q id s e l here f o =
     S : List Placed
     S = keep (fires e) (starts (Q ++ (changes id (some s) ∷ P)))
 
--- ---- 6. A set clock changes no start's ticks left.
+-- ---- 5. A set clock changes no start's ticks left.
 
 pub clock-moves-no-tick : (d : ℕ) (g : Placed) → ticksLeftOrDate (withEvent (clockSetTo d) g) ≡ ticksLeftOrDate g
 clock-moves-no-tick d g = refl
 
--- ---- 7. On the words: what an accepted tick writes to its list.
+-- ---- 6. On the words: what an accepted tick writes to its list.
 
 -- the list that a call was lent now begins with entries among which is this one: id, routine and data
 abbrev pub Lists : List ℕ → Call → List ℕ → ℕ → ℕ → ℕ → Type 0
@@ -326,6 +292,8 @@ lists-only w n t ok xs c accepted =
     let e = eventOf es c in
     let a = demand3 w n t ok (xs ++ (c ∷ [])) .answers xs [] c refl .lists accepted in (
       a .ticking ++ a .dated,
+      a .queue,
+      a .is-queue,
       a .entries,
       all-append (Listed es e) (a .ticking) (a .dated) (only-due ByTicks es e (a .ticking) (a .ticking-order))
           (only-due ByDate es e (a .dated) (a .dated-order)),
@@ -341,4 +309,4 @@ set-clock-keeps-ticks t ok w list e =
     let now = withClock (read t) clock in
     ap (λ (o : Outcome). links ByTicks (o .table)) (outcome-accepted t (setClock w list) z)
     ∙ links-is (writtenOver s t) s (effect-holds t ok (setClock w list) z) ByTicks
-    ∙ fire-elsewhere ByDate (secondsOf w) now (chained-with-clock (read t) clock (sound-holds t ok .chained)) ByTicks (dated-not-again ByTicks) refl
+    ∙ fire-elsewhere ByDate (secondsOf w) now (chained-with-clock (read t) clock (sound-holds t ok .chained)) ByTicks dated-not-again refl
