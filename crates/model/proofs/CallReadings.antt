@@ -11,9 +11,9 @@ use lib.Dec.{eqb}
 use borrow.Author.Tests.{eq-eqb}
 use Rattle.calendar.specs.Calendar.{lastSecond}
 use Rattle.model.specs.Lists.{any, count, All}
-use Rattle.model.specs.Calls.{Call, layOut, create, ident, cancel, delete, fireAfter, fireWhen, fireEvery, reset, ticksLeft, tick, setClock, getClock}
+use Rattle.model.specs.Calls.{Call, layOut, create, ident, cancel, delete, fireAfter, fireWhen, fireEvery, reset, ticksLeft, tick, setClock, getClock, initiateServer, serverFireAfter, serverFireWhen, serve}
 use Rattle.model.specs.Outcome.{outcome}
-use Rattle.model.specs.History.{Event, laidOutFor, changes, deletes, oneTick, clockSetTo, nothing, eventOf, eventsOn, isTick, ticks, perSecond, clockAfter, ends}
+use Rattle.model.specs.History.{Event, laidOutFor, changes, deletes, oneTick, clockSetTo, initiates, servesFront, nothing, eventOf, eventsOn, isTick, ticks, perSecond, clockAfter, ends}
 use Rattle.model.specs.Demand.{after, acceptedIn, eventsAfter}
 use Rattle.model.proofs.ListLaws.{cases, clash, count-append}
 use Rattle.model.proofs.Readings.{Lists, tick-lists, multiple-lists}
@@ -35,6 +35,10 @@ isTickCall (ticksLeft i) = false
 isTickCall (tick list) = true
 isTickCall (setClock w list) = false
 isTickCall getClock = false
+isTickCall initiateServer = false
+isTickCall (serverFireAfter i n r u) = false
+isTickCall (serverFireWhen i w r u) = false
+isTickCall (serve list) = false
 
 abbrev pub endsTimer : ℕ → Call → Bool
 endsTimer id (layOut n t) = true
@@ -50,6 +54,10 @@ endsTimer id (ticksLeft i) = false
 endsTimer id (tick list) = false
 endsTimer id (setClock w list) = false
 endsTimer id getClock = false
+endsTimer id initiateServer = false
+endsTimer id (serverFireAfter i n r u) = eqb i id
+endsTimer id (serverFireWhen i w r u) = eqb i id
+endsTimer id (serve list) = false
 
 tick-is : (h : List Event) (c : Call) → isTick (eventOf h c) ≡ isTickCall c
 tick-is h (layOut n t) = refl
@@ -65,6 +73,10 @@ tick-is h (ticksLeft i) = refl
 tick-is h (tick list) = refl
 tick-is h (setClock w list) = refl
 tick-is h getClock = refl
+tick-is h initiateServer = refl
+tick-is h (serverFireAfter i n r u) = refl
+tick-is h (serverFireWhen i w r u) = refl
+tick-is h (serve list) = refl
 
 ends-is : (id : ℕ) (h : List Event) (c : Call) → ends id (eventOf h c) ≡ endsTimer id c
 ends-is id h (layOut n t) = refl
@@ -80,6 +92,10 @@ ends-is id h (ticksLeft i) = refl
 ends-is id h (tick list) = refl
 ends-is id h (setClock w list) = refl
 ends-is id h getClock = refl
+ends-is id h initiateServer = refl
+ends-is id h (serverFireAfter i n r u) = refl
+ends-is id h (serverFireWhen i w r u) = refl
+ends-is id h (serve list) = refl
 
 -- the events of more calls, before which there were the events h
 record More (id : ℕ) (h : List Event) (cs : List Call) : Type 0 where
@@ -187,6 +203,8 @@ leavesClock (changes i s) = true
 leavesClock (deletes i) = true
 leavesClock oneTick = true
 leavesClock (clockSetTo d) = false
+leavesClock initiates = true
+leavesClock servesFront = true
 leavesClock nothing = true
 
 -- It stands, counted in ticks, at the seconds given in the latest set clock times T plus the accepted ticks since that one, up to its end.
@@ -203,4 +221,6 @@ clock-runs d Q P h = from 0 Q h ∙ ap {B = Option ℕ} (λ (k : ℕ). some (min
     from k (oneTick ∷ Q) h =
         from (suc k) Q (h .1) ∙ ap {B = Option ℕ} (λ (m : ℕ). some (min m (suc lastSecond * perSecond P - 1))) (omega arith)
     from k (clockSetTo e ∷ Q) h = clash (sym (h .0))
+    from k (initiates ∷ Q) h = from k Q (h .1)
+    from k (servesFront ∷ Q) h = from k Q (h .1)
     from k (nothing ∷ Q) h = from k Q (h .1)

@@ -11,7 +11,7 @@ use lib.Dec.{leb, eqb}
 use borrow.Author.Tests.{leb-true, leb-false, le-leb, lt-leb, eqb-true, eqb-false, eq-eqb, ne-eqb, not-true}
 use Rattle.model.specs.Lists.{keep, All}
 use Rattle.model.specs.Kinds.{Chain, ByTicks, ByDate, Queue, Mode, After, When, Every, ServerAfter, ServerWhen, chainFor, isPeriodic, sameChain, forServer, intervalIn}
-use Rattle.model.specs.History.{Start, Event, laidOutFor, changes, oneTick, clockSetTo, initiates, servesFront, nothing, startIn, isTick, ticks, past, movesClock, Placed, withEvent, placed, starts, ends, wasEnded, dueIn, isDue, wasDueIn, wasDue, waits, comesDue, goesBack, inTurn, inChain, remaining, ticksLeftOrDate, Waiting, waiting}
+use Rattle.model.specs.History.{Start, Event, laidOutFor, changes, deletes, oneTick, clockSetTo, initiates, servesFront, nothing, startIn, isTick, ticks, past, movesClock, Placed, withEvent, placed, starts, ends, wasEnded, dueIn, isDue, wasDueIn, wasDue, waits, comesDue, goesBack, inTurn, inChain, remaining, ticksLeftOrDate, Waiting, waiting}
 use Rattle.model.proofs.ListLaws.{cases, clash, both, all, all-map, all-append, all-keep, all-passed, all-zip, all-mapped, keep-append, keep-and, keep-on, keep-none, keep-map, map-on}
 use Rattle.model.proofs.Order.{order, orderOn, keep-order, orderOn-append, orderOn-flat, map-orderOn, map-order}
 use Rattle.model.proofs.KindLaws.{periodic, not-queue}
@@ -501,6 +501,7 @@ module _ (k : Chain) (h : List Event) (sized : All Sized (starts h)) (e : Event)
 no-tick : (e : Event) → movesClock e ≡ false → isTick e ≡ false
 no-tick (laidOutFor k) z = refl
 no-tick (changes i s) z = refl
+no-tick (deletes i) z = refl
 no-tick oneTick z = clash z
 no-tick (clockSetTo d) z = refl
 no-tick initiates z = refl

@@ -28,6 +28,10 @@ each-call P lay other (ticksLeft id) = other (ticksLeft id) refl
 each-call P lay other (tick list) = other (tick list) refl
 each-call P lay other (setClock w list) = other (setClock w list) refl
 each-call P lay other getClock = other getClock refl
+each-call P lay other initiateServer = other initiateServer refl
+each-call P lay other (serverFireAfter id n r u) = other (serverFireAfter id n r u) refl
+each-call P lay other (serverFireWhen id w r u) = other (serverFireWhen id w r u) refl
+each-call P lay other (serve list) = other (serve list) refl
 
 pub status-is : (t : List ℕ) (c : Call) → statusOn t c ≡ firstOf (refusals t (read t) c)
 unfolding statusOn

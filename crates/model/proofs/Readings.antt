@@ -9,7 +9,7 @@ use mathlib.Core.Option.{Option, none, some}
 use mathlib.Core.List.{List, [], _∷_, _++_, map, List·Memᴰ, List·Memᴰ·head, List·Memᴰ·tail, Memᴰ·append-left, Memᴰ·append-right, Memᴰ·map, Memᴰ·cast}
 use lib.ListN.{take}
 use lib.Dec.{leb, eqb}
-use borrow.Author.Tests.{leb-true, leb-false, eq-eqb, ne-eqb}
+use borrow.Author.Tests.{eqb-true, leb-true, leb-false, eq-eqb, ne-eqb}
 use Rattle.calendar.specs.declared.WallTime.{WallTime}
 use Rattle.calendar.specs.Calendar.{secondsOf}
 use Rattle.model.specs.Lists.{goesBehind, keep, any, place, All, Sorted, InOrder}
@@ -147,7 +147,8 @@ pub at-date : (P Q : List Event) (id timer d r u : ℕ) (e : Event) → let g = 
     fires e g ≡ ((not (any (ends timer) Q) && not (reached d (g .before) Q)) && (movesClock e && past d (e ∷ Q ++ g .before)))
 at-date P Q id timer d r u e =
     let B = changes id (some (forDate timer d r u)) ∷ P in
-    ap (λ (b : Bool). (not (any (ends timer) Q) && not b) && (movesClock e && past d (e ∷ Q ++ B))) (was B Q)
+    and-true (comesDue e (startAt P id (forDate timer d r u) Q))
+    ∙ ap (λ (b : Bool). (not (any (ends timer) Q) && not b) && (movesClock e && past d (e ∷ Q ++ B))) (was B Q)
   where
     was : (B Q : List Event) → wasDueIn (forDate timer d r u) B Q ≡ reached d B Q
     was B [] = refl
@@ -227,10 +228,11 @@ listed-at-tick : (w : List ℕ) (n t : ℕ) → outcome w (layOut n t) .status �
     → Lists (after w (layOut n t ∷ xs)) (tick list) list (s .id) (s .routine) (s .userData)
 listed-at-tick w n t ok xs list P Q id s ticking accepted is now =
     let a = demand3 w n t ok (xs ++ (tick list ∷ [])) .answers xs [] (tick list) refl .lists accepted in (
-      map entry (a .ticking ++ a .dated),
+      map entry (a .ticking ++ a .dated) ++ [],
       a .entries,
-      Memᴰ·map entry (Memᴰ·append-left (a .dated) (fires-listed ByTicks P Q id s oneTick (a .ticking) ticking now
-          (subst (λ (es : List Event). InOrder ticksLeftOrDate (keep (inChain ByTicks) (keep (fires oneTick) (starts es))) (a .ticking)) is (a .ticking-order)))),
+      Memᴰ·append-left [] (Memᴰ·map entry (Memᴰ·append-left (a .dated) (fires-listed ByTicks P Q id s oneTick (a .ticking) ticking now
+          (subst (λ (es : List Event). InOrder ticksLeftOrDate (keep (inChain ByTicks) (keep (fires oneTick) (starts es))) (a .ticking)) is
+          (a .ticking-order))))),
     )
 
 -- An accepted tick lists a start for n ticks, after which there were n - 1 ticks and nothing that ends it.
@@ -276,16 +278,20 @@ date-lists w n t ok xs c P Q id timer d r u accepted is quiet before moving ther
     let now : fires e (startAt P id s Q) ≡ true =
     at-date P Q id timer d r u e ∙ ap₂ (λ (x y : Bool). (not x && not y) && (movesClock e && past d (e ∷ Q ++ (changes id (some s) ∷ P)))) quiet before
     ∙ ap₂ (λ (x y : Bool). x && y) moving there in (
-      map entry (a .ticking ++ a .dated),
+      map entry (a .ticking ++ a .dated) ++ map entryOf (take (servesIn e) (a .queue)),
       a .entries,
-      Memᴰ·map entry (Memᴰ·append-right (a .ticking) (fires-listed ByDate P Q id s e (a .dated) refl now
-          (subst (λ (l : List Event). InOrder ticksLeftOrDate (keep (inChain ByDate) (keep (fires e) (starts l))) (a .dated)) is (a .dated-order)))),
+      Memᴰ·append-left (map entryOf (take (servesIn e) (a .queue)))
+          (Memᴰ·map entry (Memᴰ·append-right (a .ticking) (fires-listed ByDate P Q id s e (a .dated) refl now
+          (subst (λ (l : List Event). InOrder ticksLeftOrDate (keep (inChain ByDate) (keep (fires e) (starts l))) (a .dated)) is (a .dated-order))))),
     )
 
--- Each entry that any accepted call writes is that of a start that is due there and was not ended, and, unless it is periodic, was not due before.
+-- Each entry that any accepted call writes is that of a start that is due there and was not ended, and, unless it is periodic, was not due before;
+-- or, in a serve, that of the front of the queue.
 pub lists-only : (w : List ℕ) (n t : ℕ) → outcome w (layOut n t) .status ≡ 0 → (xs : List Call) (c : Call)
-    → outcome (after w (layOut n t ∷ xs)) c .status ≡ 0 → (l : List Placed)
-    × Begins (outcome (after w (layOut n t ∷ xs)) c .list) (lentTo c) (map entry l)
+    → outcome (after w (layOut n t ∷ xs)) c .status ≡ 0
+    → (l : List Placed) × (q : List Start) × IsQueue (eventsAfter w (layOut n t ∷ xs)) q
+    × Begins (outcome (after w (layOut n t ∷ xs)) c .list) (lentTo c)
+    (map entry l ++ map entryOf (take (servesIn (eventOf (eventsAfter w (layOut n t ∷ xs)) c)) q))
     × All (Listed (eventsAfter w (layOut n t ∷ xs)) (eventOf (eventsAfter w (layOut n t ∷ xs)) c)) l
 lists-only w n t ok xs c accepted =
     let es = eventsAfter w (layOut n t ∷ xs) in

@@ -79,6 +79,7 @@ kept-none l = keep-none (λ w. false) l (all (λ w. refl) l)
 no-tick : (e : Event) → movesClock e ≡ false → (k : Chain) → bringsDue k e ≡ false
 no-tick (laidOutFor t) z ByTicks = refl
 no-tick (changes i s) z ByTicks = refl
+no-tick (deletes i) z ByTicks = refl
 no-tick oneTick z ByTicks = z
 no-tick (clockSetTo d) z ByTicks = refl
 no-tick initiates z ByTicks = refl
@@ -246,22 +247,19 @@ module _ (s : State) (h : List Event) (v : Agrees s h) (id i : ℕ) (is : id ≡
     initiated = v .initiated;
   }
 
-  delete-calm : (k : Chain) → bringsDue k (deletes id) ≡ false
-  delete-calm ByTicks = refl
-  delete-calm ByDate = refl
-
   -- slot i becomes free
   pub on-delete : Agrees (stopped s i free) (deletes id ∷ h)
   on-delete = record {
     sized = sized-more h (deletes id) (v .sized) tt;
-    chain = λ k. rw stopped-chain (without-slot free (chainOf k s) ∙ ap rest (v .chain k)
-        ∙ sym (chain-calm k h (v .sized) (deletes id) (delete-calm k) refl));
+    chain = λ k. rw (stopped-chain s i free k) (subst (Stands k (deletes id ∷ h)) (sym (without-slot free (chainOf k s)))
+        (stands-calm h (v .sized) (deletes id) refl refl k (map (shown (s .slots)) (chainOf k s)) refl (v .chain k)));
     memory = put-at (λ j y. Remembers (deletes id ∷ h) j (memo y)) (s .slots) i free low high (no-start (deletes id ∷ h) i (memo free) refl)
         (λ j n o t p.
         let w = v .memory j o t p in
         (w .0, ap (λ (b : Bool). cond b none (lastStart (idBase + j) h)) (other-id j n) ∙ w .1));
     per = v .per;
     clock = v .clock;
+    initiated = v .initiated;
   }
 
   -- slot i starts to wait

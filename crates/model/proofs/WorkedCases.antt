@@ -7,7 +7,7 @@ use mathlib.Core.List.{List, [], _∷_, _++_, map}
 use lib.ListN.{replicate}
 use Rattle.calendar.specs.Calendar.{monthsOf, years, valid, secondsOf, dateOf}
 use Rattle.model.specs.Calls.{Call, layOut, create, ident, cancel, delete, fireAfter, fireWhen, fireEvery, reset, ticksLeft, tick, setClock, getClock}
-use Rattle.model.specs.Sound.{headerSound, slotSound, chainSound, ticksSound, datesSound, sound}
+use Rattle.model.specs.Sound.{headerSound, slotSound, chainSound, ticksSound, datesSound, queueSound, sound}
 use Rattle.model.specs.Outcome.{statusOn, outcome}
 use Rattle.model.specs.Kinds.{After, Every}
 use Rattle.model.specs.History.{startOf, laidOutFor, changes, oneTick, Placed, starts}
@@ -151,7 +151,7 @@ workedCases =
     ∷ []
 
 pub worked : map computed workedCases ≡ workedCases
-unfolding monthsOf years valid secondsOf dateOf headerSound slotSound chainSound ticksSound datesSound sound statusOn outcome
+unfolding monthsOf years valid secondsOf dateOf headerSound slotSound chainSound ticksSound datesSound queueSound sound statusOn outcome
 worked = refl
 
 -- ---- the order among equals
@@ -191,5 +191,5 @@ pub guarded-tables : tables (after (replicate 34 0) (layOut 3 10 ∷ create 1 �
     ∷ guardedTable 2 (slot 2 1 0 0 0) (slot 6 2 1 0 0) (slot 2 3 0 0 0)
     ∷ guardedTable 2 (slot 2 1 0 0 0) (slot 6 2 3 0 0) (slot 2 3 0 0 0)
     ∷ []
-unfolding headerSound slotSound chainSound ticksSound datesSound sound statusOn outcome
+unfolding headerSound slotSound chainSound ticksSound datesSound queueSound sound statusOn outcome
 guarded-tables = refl
