@@ -10,7 +10,7 @@ use lib.Seq.{getD-set-same, getD-set-other, ext-getD, getD-drop}
 use lib.Dec.{eqb}
 use borrow.Author.Tests.{eqb-true, eqb-false}
 use Rattle.model.specs.declared.Chain.{Chain}
-use Rattle.model.specs.declared.Chain.the-variants.{ByTicks, ByDate}
+use Rattle.model.specs.declared.Chain.the-variants.{ByTicks, ByDate, Queue}
 use Rattle.model.specs.State.{Slot}
 use Rattle.model.specs.Words.{word, field, headWord, slotFrom, kindOf, nameOf, intervalOf, waitOf, routineOf, dataOf, nextOf, previousOf}
 use Rattle.model.proofs.ListLaws.{cases}
@@ -23,10 +23,12 @@ use Rattle.chains.specs.EditedWords.{fieldWord, followerPut, linksPut, r
 pub head-low : (k : Chain) → headWord k < 10
 head-low ByTicks = omega arith
 head-low ByDate = omega arith
+head-low Queue = omega arith
 
 field-off-link : (k : Chain) (p j f : ℕ) → 0 < j → f < 8 → (f ≡ 6 → j ≢ p) → fieldWord j f ≢ linkWord k p
 field-off-link ByTicks zero j f h l n = omega arith
 field-off-link ByDate zero j f h l n = omega arith
+field-off-link Queue zero j f h l n = omega arith
 field-off-link k (suc p) j f h l n = λ r. n (omega arith) (omega arith)
 
 link-off-link : (k : Chain) (j p : ℕ) → j ≢ p → linkWord k j ≢ linkWord k p
@@ -41,6 +43,7 @@ head-off-link k (suc p) m h n = omega arith
 link-inside : (k : Chain) (p n : ℕ) → 8 * p + 10 ≤ n → linkWord k p < n
 link-inside ByTicks zero n h = omega arith
 link-inside ByDate zero n h = omega arith
+link-inside Queue zero n h = omega arith
 link-inside k (suc p) n h = omega arith
 
 link-below : (k : Chain) (p m : ℕ) → p ≤ m → linkWord k p < 10 + 8 * m
@@ -79,6 +82,10 @@ module _ (t : List ℕ) (w : ℕ) where
   wait-without-date zero e = absurd (e refl)
   wait-without-date (suc n) e = refl
 
+  pub wait-without-queue : (n : ℕ) → n ≢ 0 → waitWithout Queue t n w ≡ waitOf t n
+  wait-without-queue zero e = absurd (e refl)
+  wait-without-queue (suc n) e = refl
+
   pub wait-behind-ticks : (n : ℕ) → n ≢ 0 → waitBehind ByTicks t n w ≡ waitOf t n - w
   wait-behind-ticks zero e = absurd (e refl)
   wait-behind-ticks (suc n) e = refl
@@ -86,6 +93,10 @@ module _ (t : List ℕ) (w : ℕ) where
   pub wait-behind-date : (n : ℕ) → n ≢ 0 → waitBehind ByDate t n w ≡ waitOf t n
   wait-behind-date zero e = absurd (e refl)
   wait-behind-date (suc n) e = refl
+
+  pub wait-behind-queue : (n : ℕ) → n ≢ 0 → waitBehind Queue t n w ≡ waitOf t n
+  wait-behind-queue zero e = absurd (e refl)
+  wait-behind-queue (suc n) e = refl
 
 -- a relinking, by its steps
 pub relinked-by : (k : Chain) (t : List ℕ) (p l n q v i w x y : ℕ) {t₁ t₂ t₃ : List ℕ}

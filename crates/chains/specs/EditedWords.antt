@@ -5,7 +5,7 @@ use Prim.Native.Nat.{ℕ, zero, suc, _+_, _-_, _*_, _≤_, _<_}
 use mathlib.Core.List.{List}
 use lib.ListN.{length, set}
 use Rattle.model.specs.declared.Chain.{Chain}
-use Rattle.model.specs.declared.Chain.the-variants.{ByTicks, ByDate}
+use Rattle.model.specs.declared.Chain.the-variants.{ByTicks, ByDate, Queue}
 use Rattle.model.specs.Words.{word, waitOf, nextOf, previousOf}
 use Rattle.model.proofs.StateWords.{linkWord}
 
@@ -31,11 +31,13 @@ abbrev pub waitWithout : Chain → List ℕ → ℕ → ℕ → ℕ
 waitWithout k t zero w = 0
 waitWithout ByTicks t (suc n) w = waitOf t (suc n) + w
 waitWithout ByDate t (suc n) w = waitOf t (suc n)
+waitWithout Queue t (suc n) w = waitOf t (suc n)
 
 abbrev pub waitBehind : Chain → List ℕ → ℕ → ℕ → ℕ
 waitBehind k t zero w = 0
 waitBehind ByTicks t (suc n) w = waitOf t (suc n) - w
 waitBehind ByDate t (suc n) w = waitOf t (suc n)
+waitBehind Queue t (suc n) w = waitOf t (suc n)
 
 -- slot i is extracted from its chain
 abbrev pub extractedWords : Chain → List ℕ → ℕ → List ℕ

@@ -1,6 +1,7 @@
-// One slot goes into a chain of a table or out of it, word by word. A chain is doubly linked: word 5 or 6 of the header holds its first slot, and
+// One slot goes into a chain of a table or out of it, word by word. A chain is doubly linked: word 5, 6 or 9 of the header holds its first slot, and
 // each slot the next and the previous one, 0 for none. In the interval chain a slot's wait is the ticks after the slot before it, so that its
-// follower's wait grows when it leaves and shrinks when it comes in front; in the dated chain a wait is the date itself.
+// follower's wait grows when it leaves and shrinks when it comes in front; in the dated chain a wait is the date
+// itself, and in the queue of the server it is 0.
 ghost use mathlib.Core.Path.{_≡_};
 ghost use Prim.Native.Nat.{_+_, _*_, _<_, _≤_};
 ghost use lib.ListN.{length, set};
@@ -9,6 +10,7 @@ ghost use Rattle.model.proofs.StateWords.{linkWord};
 ghost use Rattle.chains.specs.EditedWords.{followerPut, linksPut, waitWithout, waitBehind, extractedWords, insertedWords, Extractable, Insertable};
 use model::Chain;
 use table::FIRST_DATED;
+use table::FIRST_QUEUED;
 use table::FIRST_TICKING;
 use table::NEXT;
 use table::PREVIOUS;
@@ -23,6 +25,7 @@ fn head_word(chain: Chain) -> usize
     match chain {
         Chain::ByTicks => FIRST_TICKING,
         Chain::ByDate => FIRST_DATED,
+        Chain::Queue => FIRST_QUEUED,
     }
 }
 
@@ -85,6 +88,7 @@ fn wait_without(t: &[u32], chain: Chain, n: u32, w: u32) -> u32
     match chain {
         Chain::ByTicks => v + w,
         Chain::ByDate => v,
+        Chain::Queue => v,
     }
 }
 
@@ -100,6 +104,7 @@ fn wait_behind(t: &[u32], chain: Chain, n: u32, w: u32) -> u32
     match chain {
         Chain::ByTicks => v - w,
         Chain::ByDate => v,
+        Chain::Queue => v,
     }
 }
 

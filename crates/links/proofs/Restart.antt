@@ -28,6 +28,8 @@ stopped-twice s i x y =
       clock = s .clock;
       ticking = once (s .ticking) d;
       dated = once (s .dated) d;
+      server = s .server;
+      queue = once (s .queue) d;
     }
 
 abbrev pub stoppedAt : List ℕ → ℕ → State

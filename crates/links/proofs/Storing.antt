@@ -21,7 +21,7 @@ spelt l m x =
 
 -- the words of slots come from them and the chains, whatever else the state has
 pub same-slots : (s : State) (slots : List Slot) (clock : Clock) (b : ℕ) (xs : List Slot) (rest : List ℕ)
-    → allSlots (record { slots = slots; clock = clock; ticking = s .ticking; dated = s .dated }) b xs rest ≡ allSlots s b xs rest
+    → allSlots (record { slots = slots; clock = clock; ticking = s .ticking; dated = s .dated; server = s .server; queue = s .queue }) b xs rest ≡ allSlots s b xs rest
 same-slots s slots clock b [] rest = refl
 same-slots s slots clock b (x ∷ xs) rest = ap (slotWords s b x) (same-slots s slots clock (suc b) xs rest)
 

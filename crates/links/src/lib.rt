@@ -4,9 +4,9 @@ ghost use mathlib.Core.Path.{_≡_};
 ghost use Prim.Native.Nat.{_+_, _*_, _<_, _≤_};
 ghost use mathlib.Core.Bool.{true};
 ghost use lib.ListN.{length};
-ghost use Rattle.model.specs.Kinds.{kindAt, chainFor, waitingKind, linked, waitsIn};
+ghost use Rattle.model.specs.Kinds.{kindAt, chainFor, waitingKind, intervalIn, linked, waitsIn};
 ghost use Rattle.model.specs.State.{chainOf, slotAt, waitAt};
-ghost use Rattle.model.specs.Directives.{stored, stopped, idled, intervalIn, started};
+ghost use Rattle.model.specs.Directives.{stored, stopped, idled, started};
 ghost use Rattle.model.specs.Words.{difference, accumulated, read, writtenOver, waitOf};
 ghost use Rattle.model.proofs.WellFormed.{Holds, timesIn};
 ghost use Rattle.links.specs.Places.{At, InTable, Stops, IdleInTable, From, Again, waitsAgain};
@@ -25,7 +25,13 @@ use table::KIND;
 use table::NAME;
 use table::NEXT;
 use table::PREVIOUS;
+use table::QUEUED_DATE;
+use table::QUEUED_TICKS;
 use table::ROUTINE;
+use table::SERVER_IDLE_DATE;
+use table::SERVER_IDLE_TICKS;
+use table::SERVER_WAITING_DATE;
+use table::SERVER_WAITING_TICKS;
 use table::WAIT;
 use table::WAITING_DATE;
 use table::WAITING_EVERY;
@@ -41,6 +47,8 @@ fn chain_for(mode: Mode) -> Chain
         Mode::After => Chain::ByTicks,
         Mode::When => Chain::ByDate,
         Mode::Every => Chain::ByTicks,
+        Mode::ServerAfter => Chain::ByTicks,
+        Mode::ServerWhen => Chain::ByDate,
     }
 }
 
@@ -52,6 +60,8 @@ fn waiting_kind(mode: Mode) -> u32
         Mode::After => WAITING_TICKS,
         Mode::When => WAITING_DATE,
         Mode::Every => WAITING_EVERY,
+        Mode::ServerAfter => SERVER_WAITING_TICKS,
+        Mode::ServerWhen => SERVER_WAITING_DATE,
     }
 }
 
@@ -62,6 +72,7 @@ fn interval_in(chain: Chain, amount: u32) -> u32
     match chain {
         Chain::ByTicks => amount,
         Chain::ByDate => 0,
+        Chain::Queue => 0,
     }
 }
 
@@ -78,6 +89,18 @@ pub fn stopped_kind(kind: u32) -> u32
     if kind == WAITING_EVERY {
         return IDLE_EVERY;
     }
+    if kind == SERVER_WAITING_TICKS {
+        return SERVER_IDLE_TICKS;
+    }
+    if kind == SERVER_WAITING_DATE {
+        return SERVER_IDLE_DATE;
+    }
+    if kind == QUEUED_TICKS {
+        return SERVER_IDLE_TICKS;
+    }
+    if kind == QUEUED_DATE {
+        return SERVER_IDLE_DATE;
+    }
     kind
 }
 
@@ -86,7 +109,13 @@ fn chain_in(kind: u32) -> Chain
     requires { ⌜ linked kind ≡ true ⌝ }
     ensures { λ r. ⌜ waitsIn r kind ≡ true ⌝ }
 {
+    if QUEUED_TICKS <= kind {
+        return Chain::Queue;
+    }
     if kind == WAITING_DATE {
+        return Chain::ByDate;
+    }
+    if kind == SERVER_WAITING_DATE {
         return Chain::ByDate;
     }
     Chain::ByTicks
@@ -128,6 +157,7 @@ fn behind(chain: Chain, left: u32, w: u32) -> u32
     match chain {
         Chain::ByTicks => left - w,
         Chain::ByDate => left,
+        Chain::Queue => left,
     }
 }
 

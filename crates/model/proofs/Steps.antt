@@ -232,6 +232,17 @@ with-clock-chain s c ByTicks = refl
 with-clock-chain s c ByDate = refl
 with-clock-chain s c Queue = refl
 
+-- two states are the same where their parts are
+pub same-state : (s s′ : State) → s .slots ≡ s′ .slots → s .clock ≡ s′ .clock → s .server ≡ s′ .server → ((m : Chain) → chainOf m s ≡ chainOf m s′) → s ≡ s′
+same-state s s′ slots clock server chains = λ d. record {
+  slots = slots d;
+  clock = clock d;
+  ticking = chains ByTicks d;
+  dated = chains ByDate d;
+  server = server d;
+  queue = chains Queue d;
+}
+
 module _ (k : Chain) (limit : ℕ) (s : State) where
   pub fire-slots : fire k limit s .slots ≡ firedAll (due k limit s) (s .slots)
   fire-slots = goOn-slots (due k limit s) (off k limit s) ∙ with-chain-slots s (firedAll (due k limit s) (s .slots)) (keep (λ w. ltb limit (w .wait)) (chainOf k s)) k
