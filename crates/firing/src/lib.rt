@@ -97,64 +97,6 @@ fn take_off(t: &mut [u32], list: &mut [u32], chain: Chain, limit: u32, from: u32
     }
 }
 
-// The slot of entry j.
-fn slot_listed(list: &[u32], j: u32) -> u32
-    requires { ⌜ (3 * j < length (now list)) × (j < 256) × (idBase ≤ word (now list) (3 * j)) ⌝ }
-    ensures { λ r. ⌜ r ≡ word (now (list .entry)) (3 * j) - idBase ⌝ }
-{
-    let at = ENTRY * (j as usize);
-    list[at] - ID_BASE
-}
-
-// A slot of the interval chain with its ticks left; slot 0 for the chain's start.
-struct Mark {
-    slot: u32,
-    ticks: u32,
-}
-
-// Where to seek the place of a timer that goes back: from the mark where that is due by then, else from the chain's start.
-fn seek_from(mark: Mark, interval: u32) -> Mark
-    ensures { λ r. ⌜ Sought (mark .slot) (mark .ticks) interval (r .slot) (r .ticks) ⌝ }
-{
-    if interval < mark.ticks {
-        return Mark { slot: 0, ticks: 0 };
-    }
-    mark
-}
-
-// Slot i goes back into the interval chain, if its timer is periodic and idle; the mark is then the slot.
-fn go_back(t: &mut [u32], i: u32, mark: Mark) -> Mark
-    requires { ⌜ GoesBack (now t) i (mark .slot) (mark .ticks) ⌝ }
-    ensures { λ r. ⌜ WentBack (now (t .entry)) i (r .slot) (r .ticks) (now (t .exit)) ⌝ }
-{
-    if get(t, i, KIND) != IDLE_EVERY {
-        return mark;
-    }
-    let interval = get(t, i, INTERVAL);
-    let sought = seek_from(mark, interval);
-    let from = sought.slot;
-    let ticks = sought.ticks;
-    wait_again(t, i, from, interval - ticks);
-    Mark {
-        slot: i,
-        ticks: interval,
-    }
-}
-
-// The periodic timers of the entries from `from` on go back, in the order of the entries. There are n entries.
-fn put_back(t: &mut [u32], list: &[u32], from: u32, n: u32)
-    requires { ⌜ Entries (now t) (now list) from n ⌝ }
-    ensures { λ _. ⌜ now (t .exit) ≡ writtenOver (backAll (slotsIn (now (list .entry)) from (n - from)) (read (now (t .entry)))) (now (t .entry)) ⌝ }
-{
-    let mut mark = Mark { slot: 0, ticks: 0 };
-    let mut j = from;
-    while j < n {
-        let i = slot_listed(list, j);
-        mark = go_back(t, i, mark);
-        j += 1;
-    }
-}
-
 // The timers at the front of a chain whose wait is not above the limit fire, as entries from `from` on; how many entries there are then.
 pub fn fire(t: &mut [u32], list: &mut [u32], chain: Chain, limit: u32, from: u32) -> u32
     requires { ⌜ Room chain (now t) (now list) limit from ⌝ }

@@ -9,7 +9,7 @@ ghost use Rattle.model.specs.State.{chainOf, slotAt, waitAt};
 ghost use Rattle.model.specs.Directives.{stored, stopped, idled, started};
 ghost use Rattle.model.specs.Words.{difference, accumulated, read, writtenOver, waitOf};
 ghost use Rattle.model.proofs.WellFormed.{Holds, timesIn};
-ghost use Rattle.links.specs.Places.{At, InTable, Stops, IdleInTable, From, Again, waitsAgain};
+ghost use Rattle.links.specs.Places.{At, InTable, Stops, IdleInTable, From};
 ghost use Rattle.links.specs.TimerWords.{timerPut};
 use chains::extract;
 use chains::follower;
@@ -144,9 +144,9 @@ pub fn stop(t: &mut [u32], i: u32)
 }
 
 // Where a timer goes: the slot before it, and its wait.
-struct Place {
-    before: u32,
-    wait: u32,
+pub struct Place {
+    pub before: u32,
+    pub wait: u32,
 }
 
 // What is left of some ticks behind a slot of wait w; a date stays.
@@ -163,7 +163,7 @@ fn behind(chain: Chain, left: u32, w: u32) -> u32
 
 // The place of a timer that is due `amount` ticks after slot `from`, or at the date `amount`: behind every timer due by then. Slot `from` is
 // one of the chain that is due by then, or 0 for the chain's start.
-fn place_from(t: &[u32], chain: Chain, from: u32, amount: u32) -> Place
+pub fn place_from(t: &[u32], chain: Chain, from: u32, amount: u32) -> Place
     requires { ⌜ From chain (now t) from amount ⌝ }
     ensures { λ r. ⌜ At chain (read (now (t .entry))) (accumulated chain (waitAt from (chainOf chain (read (now (t .entry))))) amount) (r .before) (r .wait) ⌝ }
 {
@@ -231,19 +231,6 @@ pub fn start(t: &mut [u32], mode: Mode, i: u32, amount: u32, routine: u32, user_
 {
     stop(t, i);
     start_idle(t, mode, i, amount, routine, user_data);
-}
-
-// An idle periodic timer waits again for its interval, behind every timer due at the same tick: it is due `left` ticks after slot `from`, or
-// from now where `from` is 0.
-pub fn wait_again(t: &mut [u32], i: u32, from: u32, left: u32)
-    requires { ⌜ Again (now t) i from left ⌝ }
-    ensures { λ _. ⌜ now (t .exit) ≡ writtenOver (waitsAgain (read (now (t .entry))) i) (now (t .entry)) ⌝ }
-{
-    let place = place_from(t, Chain::ByTicks, from, left);
-    let p = place.before;
-    let w = place.wait;
-    insert(t, Chain::ByTicks, p, i, w);
-    put(t, i, KIND, WAITING_EVERY);
 }
 
 // A slot gets another kind and name, and what was stored at a start is cleared.

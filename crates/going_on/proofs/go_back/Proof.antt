@@ -1,11 +1,11 @@
--- `firing::go_back` meets its contract: an idle periodic timer waits again, and any other stays. Assumes nothing.
+-- `going_on::go_back` meets its contract: an idle periodic timer waits again, and any other stays. Assumes nothing.
 use mathlib.Core.Path.{refl, sym, _∙_}
 use native.Mathlib.Omega.{arith}
 use borrow.Author.Needs.{needs}
 use Rattle.links.proofs.Extracting.{in-words}
-use Rattle.firing.proofs.GoingBack.{stays-where, waits-words, marks-own, again-from}
-use Rattle.firing.proofs.go_back.Statement.{statement}
-use Rattle.firing.proofs.go_back.Tie as tie
+use Rattle.going_on.proofs.GoingBack.{stays-where, waits-words, marks-own, again-from}
+use Rattle.going_on.proofs.go_back.Statement.{statement}
+use Rattle.going_on.proofs.go_back.Tie as tie
 
 get-requires : tie.Need-get-requires
 get-requires c κs = let entry = c .before .before in (omega arith, in-words (entry .args .t .now) (entry .args .i) (entry .pre .in-table))

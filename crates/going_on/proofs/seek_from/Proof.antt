@@ -1,9 +1,9 @@
--- `firing::seek_from` meets its contract, by its two cases. Assumes nothing.
+-- `going_on::seek_from` meets its contract, by its two cases. Assumes nothing.
 use mathlib.Core.Path.{refl}
 use mathlib.Core.Logic.{inl, inr}
 use native.Mathlib.Omega.{arith}
-use Rattle.firing.proofs.seek_from.Statement.{statement}
-use Rattle.firing.proofs.seek_from.Tie as tie
+use Rattle.going_on.proofs.seek_from.Statement.{statement}
+use Rattle.going_on.proofs.seek_from.Tie as tie
 
 returns : tie.Need-returns
 returns c = record { from = inr (refl, refl); due = omega arith }

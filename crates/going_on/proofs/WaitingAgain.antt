@@ -16,9 +16,10 @@ use Rattle.model.proofs.ReadBack.{slot-read}
 use Rattle.model.proofs.Slots.{length-put}
 use Rattle.model.proofs.Steps.{chained-started}
 use Rattle.chains.specs.EditedWords.{fieldWord, insertedWords, Insertable}
-use Rattle.links.specs.Places.{At, IdleInTable, waitsAgain, Again}
+use Rattle.links.specs.Places.{At, IdleInTable}
+use Rattle.going_on.specs.GoingBack.{waitsAgain, Again}
 use Rattle.links.proofs.Extracting.{in-slots, in-none}
 use Rattle.links.proofs.Inserting.{started-as, insertable, kind-words}
 
 -- a timer that does not wait
 module _ (t : List ℕ) (i : ℕ) (h : IdleInTable t i) where

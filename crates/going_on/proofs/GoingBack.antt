@@ -10,7 +10,7 @@ use lib.ListN.{length}
 use lib.Dec.{leb, eqb}
 use borrow.Author.Tests.{eqb-true, eq-eqb, ne-eqb}
 use Rattle.model.specs.declared.Chain.{Chain}
-use Rattle.model.specs.declared.Chain.the-variants.{ByTicks, ByDate}
+use Rattle.model.specs.declared.Chain.the-variants.{ByTicks, ByDate, Queue}
 use Rattle.model.specs.Kinds.{waitsIn}
 use Rattle.model.specs.Lists.{place}
 use Rattle.model.specs.State.{Slot, Link, State, slotAt, waitAt, idBase}
@@ -19,12 +19,12 @@ use Rattle.model.proofs.ListLaws.{cases, count-place}
 use Rattle.model.proofs.WellFormed.{timesIn, Chained, Holds}
 use Rattle.model.proofs.StateWords.{absent, length-over}
 use Rattle.model.proofs.ReadBack.{slots-length, slot-read}
-use Rattle.links.specs.Places.{InTable, IdleInTable, waitsAgain, Again}
+use Rattle.links.specs.Places.{InTable, IdleInTable}
 use Rattle.links.proofs.Extracting.{in-none}
 use Rattle.links.proofs.NextState.{Next, next-start, next-read, next-holds, next-then}
 use Rattle.links.proofs.WalkToPlace.{zero-wait}
-use Rattle.links.proofs.WaitingAgain.{again-chained, again-length}
-use Rattle.firing.specs.GoingBack.{wentBack, backAll, slotsIn, Entries, Marked, Sought, GoesBack, WentBack}
+use Rattle.going_on.proofs.WaitingAgain.{again-chained, again-length}
+use Rattle.going_on.specs.GoingBack.{waitsAgain, Again, wentBack, backAll, slotsIn, Entries, Marked, Sought, GoesBack, WentBack}
 
 -- ---- one slot
 
@@ -63,6 +63,7 @@ module _ {t : List ℕ} {i : ℕ} (at : InTable t i) where
         nowhere : (k : Chain) → waitsIn k 7 ≡ false
         nowhere ByTicks = refl
         nowhere ByDate = refl
+        nowhere Queue = refl
 
     pub waits-words : {v : List ℕ} → v ≡ writtenOver (waitsAgain (read t) i) t → v ≡ writtenOver (wentBack (read t) i) t
     waits-words e = e ∙ ap (λ (s : State). writtenOver s t) (sym went-is)

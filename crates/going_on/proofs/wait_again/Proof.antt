@@ -1,11 +1,11 @@
--- `links::wait_again` meets its contract: the slot goes where `place_from` says, and the words are those of the state in which it waits again.
+-- `going_on::wait_again` meets its contract: the slot goes where `place_from` says, and the words are those of the state in which it waits again.
 -- Assumes nothing.
 use native.Mathlib.Omega.{arith}
 use Rattle.links.proofs.Extracting.{in-words}
-use Rattle.links.proofs.WaitingAgain.{again-insertable, again-words}
+use Rattle.going_on.proofs.WaitingAgain.{again-insertable, again-words}
 use borrow.Author.Needs.{needs}
-use Rattle.links.proofs.wait_again.Statement.{statement}
-use Rattle.links.proofs.wait_again.Tie as tie
+use Rattle.going_on.proofs.wait_again.Statement.{statement}
+use Rattle.going_on.proofs.wait_again.Tie as tie
 
 place-from-requires : tie.Need-place-from-requires
 place-from-requires c κs = c .before .before .pre .from

@@ -1,11 +1,11 @@
--- `firing::put_back` meets its contract. The loop's invariant is `Backing`: what is left to do from entry `j` on is all that is left from the
+-- `going_on::put_back` meets its contract. The loop's invariant is `Backing`: what is left to do from entry `j` on is all that is left from the
 -- start. The measure is the entries ahead. Assumes nothing.
 use mathlib.Core.Path.{refl}
 use Prim.Native.Nat.{_-_}
 use native.Mathlib.Omega.{arith}
-use Rattle.firing.proofs.GoingBack.{Backing, backing-start, backing-length, backing-end, backing-entry, backing-back, backing-again}
-use Rattle.firing.proofs.put_back.Statement.{statement}
-use Rattle.firing.proofs.put_back.Tie as tie
+use Rattle.going_on.proofs.GoingBack.{Backing, backing-start, backing-length, backing-end, backing-entry, backing-back, backing-again}
+use Rattle.going_on.proofs.put_back.Statement.{statement}
+use Rattle.going_on.proofs.put_back.Tie as tie
 
 abbrev Inv-loop : tie.InvT-loop
 Inv-loop t₀ list from n mark₀ j₀ t mark j = Backing t₀ list from n t (mark .slot) (mark .ticks) j

@@ -7,10 +7,26 @@ use mathlib.Core.Bool.{cond}
 use mathlib.Core.List.{List, [], _∷_}
 use lib.ListN.{length}
 use lib.Dec.{eqb}
+use Rattle.model.specs.declared.Chain.the-variants.{ByTicks}
+use Rattle.model.specs.declared.Mode.the-variants.{Every}
+use Rattle.model.specs.Kinds.{waitingKind}
 use Rattle.model.specs.State.{State, slotAt, waitAt, idBase}
-use Rattle.model.specs.Words.{word, read, writtenOver, slotCount}
+use Rattle.model.specs.Directives.{stored, became, inserted}
+use Rattle.model.specs.Words.{word, read, writtenOver, slotCount, intervalOf}
 use Rattle.model.proofs.WellFormed.{timesIn, Holds}
-use Rattle.links.specs.Places.{InTable, waitsAgain}
+use Rattle.links.specs.Places.{InTable, IdleInTable, From}
+
+-- an idle periodic timer waits again, for its interval
+abbrev pub waitsAgain : State → ℕ → State
+waitsAgain s i =
+    let x = slotAt (s .slots) i in
+    inserted ByTicks (stored s i (became (waitingKind Every) x)) i (x .interval)
+
+-- slot i does not wait, and its interval is `left` more than the ticks left of slot p
+pub record Again (t : List ℕ) (i p left : ℕ) : Type 0 where
+  pub idle : IdleInTable t i
+  pub from : From ByTicks t p left
+  pub sum : waitAt p (read t .ticking) + left ≡ intervalOf t i
 
 -- slot i waits again, if its timer is periodic and idle
 abbrev pub wentBack : State → ℕ → State
