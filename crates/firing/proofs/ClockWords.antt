@@ -22,7 +22,7 @@ use Rattle.links.proofs.Storing.{same-slots}
 -- the words of s with words 2 to 4 as given
 abbrev clockStored : State → ℕ → ℕ → ℕ → List ℕ → List ℕ
 clockStored s isSet second into rest =
-    length (s .slots) ∷ s .clock .perSecond ∷ isSet ∷ second ∷ into ∷ first (s .ticking) ∷ first (s .dated) ∷ 0 ∷ 0 ∷ 0 ∷ rest
+    length (s .slots) ∷ s .clock .perSecond ∷ isSet ∷ second ∷ into ∷ first (s .ticking) ∷ first (s .dated) ∷ 0 ∷ cond (s .server) 1 0 ∷ first (s .queue) ∷ rest
 
 module _ (t : List ℕ) (s : State) (is : writtenOver s t ≡ t) (second into : ℕ) where
   same : allSlots s 1 (s .slots) (drop (10 + 8 * length (s .slots)) t)

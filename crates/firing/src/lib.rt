@@ -1,41 +1,39 @@
-// Timers fire, and the clock goes on: the steps of a tick and of a set clock. All timers of a chain that are due come off first and are
-// listed; then the periodic ones, which the list names in the order in which they fired, go back into the interval chain.
+// Timers fire, and the clock goes on: the steps of a tick and of a set clock. All timers of a chain that are due come off first: a server timer
+// goes to the back of the queue, any other is listed. Then the periodic ones, which the list names in the order in which they fired, go back into
+// the interval chain.
 ghost use mathlib.Core.Path.{_≡_};
 ghost use mathlib.Core.Bool.{true, false};
 ghost use mathlib.Core.List.{[], _∷_};
-ghost use Prim.Native.Nat.{_+_, _-_, _*_, _<_, _≤_};
+ghost use Prim.Native.Nat.{_+_, _*_, _<_, _≤_};
 ghost use lib.ListN.{length};
 ghost use lib.Seq.{sets};
-ghost use Rattle.model.specs.State.{withClock, idBase};
+ghost use Rattle.model.specs.State.{withClock};
 ghost use Rattle.model.specs.Directives.{nearer, clockAt, clockStep};
-ghost use Rattle.model.specs.Words.{word, read, writtenOver, ticksInto};
+ghost use Rattle.model.specs.Words.{read, writtenOver, ticksInto};
 ghost use Rattle.model.specs.Sound.{sound};
 ghost use Rattle.model.proofs.WellFormed.{Holds};
-ghost use Rattle.firing.specs.Lists.{Room, ComesOff, CameOff, TakesOff, Fires};
-ghost use Rattle.firing.specs.GoingBack.{backAll, slotsIn, Entries, Sought, GoesBack, WentBack};
+ghost use Rattle.firing.specs.Lists.{Room, ComesOff, CameOff, Turns, tallyOf, Turned, TakesOff, Fires};
 use chains::follower;
+use going_on::ENTRY;
+use going_on::put_back;
+use going_on::queue;
 use links::stop_in;
 use links::stopped_kind;
-use links::wait_again;
 use model::Chain;
 use slots::ID_BASE;
 use table::CLOCK_SET;
 use table::DATA;
 use table::FIRST_TICKING;
-use table::IDLE_EVERY;
-use table::INTERVAL;
 use table::KIND;
 use table::ROUTINE;
 use table::SECONDS;
+use table::SERVER_WAITING_TICKS;
 use table::TICKS;
 use table::TICKS_PER_SECOND;
 use table::WAIT;
 use table::WAITING_EVERY;
 use table::get;
 use table::put;
-
-// Words of the fired list for each timer: id, routine, user data.
-pub const ENTRY: usize = 3;
 
 // Entry n of the fired list.
 fn put_entry(list: &mut [u32], n: u32, id: u32, routine: u32, user_data: u32)
@@ -59,55 +57,85 @@ fn come_off(t: &mut [u32], list: &mut [u32], chain: Chain, i: u32, kind: u32, n:
     stop_in(t, chain, i, stopped_kind(kind));
 }
 
-// How many entries there are, and whether the timer of one is periodic.
-struct Off {
+// How many entries there are, whether the timer of one is periodic, and the last slot of the queue, 0 where that is empty.
+struct Counts {
     count: u32,
     periodic: bool,
+    end: u32,
 }
 
-// The timers at the front of a chain whose wait is not above the limit come off it and are listed, as entries from `from` on.
-fn take_off(t: &mut [u32], list: &mut [u32], chain: Chain, limit: u32, from: u32) -> Off
-    requires { ⌜ Room chain (now t) (now list) limit from ⌝ }
-    ensures { λ r. ⌜ TakesOff chain (now (t .entry)) (now (list .entry)) limit from false (r .count) (r .periodic) (now (t .exit)) (now (list .exit)) ⌝ }
+// Slot i, which is due, comes off the chain: a server timer goes to the back of the queue, any other is listed.
+fn turn(t: &mut [u32], list: &mut [u32], chain: Chain, i: u32, counts: Counts) -> Counts
+    requires { ⌜ Turns chain (now t) (now list) i (counts .count) (counts .end) ⌝ }
+    ensures { λ r. ⌜ Turned (now (t .entry)) (now (list .entry)) i (tallyOf (counts .count) (counts .periodic) (counts .end)) (tallyOf (r .count) (r .periodic) (r .end)) (now (t .exit)) (now (list .exit)) ⌝ }
 {
-    let mut n = from;
-    let mut periodic = false;
+    let kind = get(t, i, KIND);
+    if SERVER_WAITING_TICKS <= kind {
+        queue(t, chain, i, kind, counts.end);
+        return Counts {
+            count: counts.count,
+            periodic: counts.periodic,
+            end: i,
+        };
+    }
+    come_off(t, list, chain, i, kind, counts.count);
+    let mut periodic = counts.periodic;
+    if kind == WAITING_EVERY {
+        periodic = true;
+    }
+    Counts {
+        count: counts.count + 1,
+        periodic: periodic,
+        end: counts.end,
+    }
+}
+
+// The timers at the front of a chain whose wait is not above the limit come off it; those listed are the entries from `from` on.
+fn take_off(t: &mut [u32], list: &mut [u32], chain: Chain, limit: u32, from: u32, end: u32) -> Counts
+    requires { ⌜ Room chain (now t) (now list) limit from end ⌝ }
+    ensures { λ r. ⌜ TakesOff chain (now (t .entry)) (now (list .entry)) limit from false (tallyOf (r .count) (r .periodic) (r .end)) (now (t .exit)) (now (list .exit)) ⌝ }
+{
+    let mut counts = Counts {
+        count: from,
+        periodic: false,
+        end: end,
+    };
     let mut i = follower(t, chain, 0);
     loop {
         if i == 0 {
-            break Off {
-                count: n,
-                periodic: periodic,
-            };
+            break counts;
         }
         let w = get(t, i, WAIT);
         if limit < w {
-            break Off {
-                count: n,
-                periodic: periodic,
-            };
+            break counts;
         }
-        let kind = get(t, i, KIND);
-        if kind == WAITING_EVERY {
-            periodic = true;
-        }
-        come_off(t, list, chain, i, kind, n);
-        n += 1;
+        counts = turn(t, list, chain, i, counts);
         i = follower(t, chain, 0);
     }
 }
 
-// The timers at the front of a chain whose wait is not above the limit fire, as entries from `from` on; how many entries there are then.
-pub fn fire(t: &mut [u32], list: &mut [u32], chain: Chain, limit: u32, from: u32) -> u32
-    requires { ⌜ Room chain (now t) (now list) limit from ⌝ }
-    ensures { λ r. ⌜ Fires chain (now (t .entry)) (now (list .entry)) limit from r (now (t .exit)) (now (list .exit)) ⌝ }
+// How many entries there are, and the last slot of the queue.
+pub struct Fired {
+    pub count: u32,
+    pub end: u32,
+}
+
+// The timers at the front of a chain whose wait is not above the limit fire: server timers go to the back of the queue, whose last slot is `end`, 0
+// where that is empty, and the others are listed, as entries from `from` on.
+pub fn fire(t: &mut [u32], list: &mut [u32], chain: Chain, limit: u32, from: u32, end: u32) -> Fired
+    requires { ⌜ Room chain (now t) (now list) limit from end ⌝ }
+    ensures { λ r. ⌜ Fires chain (now (t .entry)) (now (list .entry)) limit from (r .count) (r .end) (now (t .exit)) (now (list .exit)) ⌝ }
 {
-    let off = take_off(t, list, chain, limit, from);
+    let off = take_off(t, list, chain, limit, from, end);
     let n = off.count;
+    let last = off.end;
     if off.periodic {
         put_back(t, list, from, n);
     }
-    n
+    Fired {
+        count: n,
+        end: last,
+    }
 }
 
 // Every interval timer comes one tick nearer: the first one's wait falls, and those behind it count from it.

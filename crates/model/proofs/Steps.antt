@@ -308,7 +308,7 @@ module _ (k : Chain) (s : State) (h : Chained s) (ws rest : List Link)
       in-kind false p = absurd (omega arith)
 
   -- each that fires has the kind of one that fired
-  goes-fired : (j : Chain) → All (λ w. goesTo j fs w ≡ waitsIn j (kindAt (slotAt (s .slots) (w .slot) .kind) .whenFired)) ws
+  pub goes-fired : (j : Chain) → All (λ w. goesTo j fs w ≡ waitsIn j (kindAt (slotAt (s .slots) (w .slot) .kind) .whenFired)) ws
   goes-fired j = all-map (λ w p.
       let a = cases (among ws (w .slot)) (λ e. e) (λ e. absurd (omega (arith, any-none (λ y. eqb (y .slot) (w .slot)) ws e))) in
       let x = slotAt (s .slots) (w .slot) in
