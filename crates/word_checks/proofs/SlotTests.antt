@@ -44,7 +44,7 @@ module _ (server : Bool) (t : List ℕ) (i : ℕ) where
   pub routine-fails : 1 < kindOf t i → routineOf t i < 1 → false ≡ slotTested server t i
   routine-fails h n = slot-fails 4 (rw (le-ltb (kindOf t i) 2 (omega arith)) (le-ltb 0 (routineOf t i) (omega arith)))
 
-  as-kind : (k : ℕ) → kindOf t i ≡ k → slotTested server t i ≡ slotTestedAs server t i k
+  pub as-kind : (k : ℕ) → kindOf t i ≡ k → slotTested server t i ≡ slotTestedAs server t i k
   unfolding slotTested
   as-kind k e = ap (slotTestedAs server t i) e
 
@@ -73,7 +73,7 @@ module _ (server : Bool) (t : List ℕ) (i : ℕ) where
   new-name e b = sym (as-kind 1 e ∙ blank (ltb 0 (nameOf t i)) b)
 
   -- name and routine are right: the rest decides
-  rest : (a : Bool) → 0 < nameOf t i → 0 < routineOf t i → (ltb 0 (nameOf t i) && (ltb 0 (routineOf t i) && a)) ≡ a
+  pub rest : (a : Bool) → 0 < nameOf t i → 0 < routineOf t i → (ltb 0 (nameOf t i) && (ltb 0 (routineOf t i) && a)) ≡ a
   rest a n r = rw (lt-ltb 0 (nameOf t i) n, lt-ltb 0 (routineOf t i) r)
 
   pub waiting-ticks : kindOf t i ≡ 4 → 0 < nameOf t i → 0 < routineOf t i → true ≡ slotTested server t i
