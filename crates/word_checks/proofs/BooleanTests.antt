@@ -55,7 +55,7 @@ or-none a b z =
     let r = and-le-r a b in
     (omega arith, omega arith)
 
-or-both : (a b : ℕ) → eqb (bitOr a b) 0 ≡ (eqb a 0 && eqb b 0)
+pub or-both : (a b : ℕ) → eqb (bitOr a b) 0 ≡ (eqb a 0 && eqb b 0)
 or-both a b =
     same (eqb (bitOr a b) 0) (eqb a 0 && eqb b 0)
     (λ e.
