@@ -27,7 +27,7 @@ clockStored s isSet second into rest =
 module _ (t : List ℕ) (s : State) (is : writtenOver s t ≡ t) (second into : ℕ) where
   same : allSlots s 1 (s .slots) (drop (10 + 8 * length (s .slots)) t)
       ≡ allSlots (withClock s (clockAt (s .clock) second into)) 1 (s .slots) (drop (10 + 8 * length (s .slots)) t)
-  same = sym (same-slots s (s .slots) (clockAt (s .clock) second into) 1 (s .slots) (drop (10 + 8 * length (s .slots)) t))
+  same = sym (same-slots s (s .slots) (clockAt (s .clock) second into) (s .server) 1 (s .slots) (drop (10 + 8 * length (s .slots)) t))
 
   -- the clock is set to a second
   clock-placed : set (set (set t 2 1) 3 second) 4 into ≡ writtenOver (withClock s (clockAt (s .clock) second into)) t

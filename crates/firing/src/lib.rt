@@ -47,7 +47,7 @@ fn put_entry(list: &mut [u32], n: u32, id: u32, routine: u32, user_data: u32)
 }
 
 // Slot i, of that kind, comes off the chain and is listed as entry n.
-fn come_off(t: &mut [u32], list: &mut [u32], chain: Chain, i: u32, kind: u32, n: u32)
+pub fn come_off(t: &mut [u32], list: &mut [u32], chain: Chain, i: u32, kind: u32, n: u32)
     requires { ⌜ ComesOff chain (now t) (now list) i kind n ⌝ }
     ensures { λ _. ⌜ CameOff (now (t .entry)) (now (list .entry)) i n (now (t .exit)) (now (list .exit)) ⌝ }
 {

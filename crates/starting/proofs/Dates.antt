@@ -11,7 +11,7 @@ use Rattle.calendar.specs.declared.Instant.{Instant}
 use Rattle.calendar.specs.declared.Instant.the-variants.{Second, NotValid}
 use Rattle.calendar.specs.Calendar.{secondsOf, instantOf}
 use Rattle.calendar.proofs.Theorems.{second-answer, not-valid-answer}
-use Rattle.model.specs.declared.Mode.the-variants.{When}
+use Rattle.model.specs.declared.Mode.{Mode}
 use Rattle.model.specs.Directives.{notAhead, started}
 use Rattle.model.specs.Words.{writtenOver, read, seconds}
 
@@ -29,6 +29,6 @@ module _ (t : List ℕ) where
       let a = second-answer w s e n in
       ap₂ (λ (b c : Bool). not (b && c)) (a .is-valid) (lt-ltb (seconds t) (secondsOf w) (omega (arith, a .is)))
 
-  pub dated-is : (w : WallTime) (r u : ℕ) {s i k : ℕ} {d : Instant} {v : List ℕ} → d ≡ instantOf w → d ≡ Second s → i ≡ k
-      → v ≡ writtenOver (started When (read t) i s r u) t → v ≡ writtenOver (started When (read t) k (secondsOf w) r u) t
-  dated-is w r u {s} e n is h = h ∙ ap₂ (λ (a b : ℕ). writtenOver (started When (read t) a b r u) t) is (second-answer w s e n .is)
+  pub dated-is : (m : Mode) (w : WallTime) (r u : ℕ) {s i k : ℕ} {d : Instant} {v : List ℕ} → d ≡ instantOf w → d ≡ Second s → i ≡ k
+      → v ≡ writtenOver (started m (read t) i s r u) t → v ≡ writtenOver (started m (read t) k (secondsOf w) r u) t
+  dated-is m w r u {s} e n is h = h ∙ ap₂ (λ (a b : ℕ). writtenOver (started m (read t) a b r u) t) is (second-answer w s e n .is)
