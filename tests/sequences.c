@@ -45,7 +45,7 @@ static void new_sequence(struct sequence *s, struct lent *memory)
     memset(&s->oracle, 0, sizeof s->oracle);
     started_tables += s->at_start;
     place.table++, place.number = 0;
-    random_span();
+    random_manner();
 }
 
 static void go_to(const struct sequence *s, const struct call *c, uint32_t *table)
@@ -86,7 +86,7 @@ static void make_cut(struct sequence *s, struct call *c)
 static void next_call(struct sequence *s)
 {
     struct call c;
-    if (s->oracle.slots == 0 || one_in(150)) {
+    if (s->oracle.slots == 0 || one_in(200)) {
         random_lay_out(s->most, s->capacity, &c);
         if (c.slots > s->most && c.slots <= MAX_SLOTS && s->capacity > s->reachable)
             c.slots = s->most;
@@ -95,7 +95,7 @@ static void next_call(struct sequence *s)
     }
     random_call(&s->oracle, &c);
     c.words = s->capacity;
-    if (s->capacity == s->reachable && one_in(40)) {
+    if (s->capacity == s->reachable && one_in(30)) {
         make_cut(s, &c);
         return;
     }
@@ -156,7 +156,7 @@ int main(int count, char **arguments)
            "locked, %" PRIu64 " with those before them), %" PRIu64 " pairs in turn, %" PRIu64 " calls on slices cut short\n",
            seed, calls, place.table, locked_tables, started_tables, table_pairs, cut_slices);
     report_met();
-    unsigned missing = statuses_not_met() + kinds_not_met() + turns_not_met(TURNS_OF_CALLS);
+    unsigned missing = statuses_not_met() + kinds_not_met() + turns_not_met(TURNS_OF_CALLS) + queue_not_met();
     place.call = NULL, place.table = 0;
     if (missing)
         fail("%u cases were not met", missing);
