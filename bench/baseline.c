@@ -591,11 +591,12 @@ uint32_t CALL(ticks_left)(const uint32_t *table, size_t words, uint32_t id, uint
 uint32_t CALL(tick)(uint32_t *table, size_t words, uint32_t *fired, size_t fired_words, uint32_t *count)
 {
     *count = 0;
-    uint32_t last_queued = check(table, words), done = 0;
+    uint32_t last_queued = check(table, words);
     if (last_queued == NOT_SOUND)
         return HC_NOT_SOUND;
     if (fired_words < FIRED_WORDS * table[SLOTS])
         return HC_LIST_TOO_SHORT;
+    uint32_t done = 0;
     if (table[FIRST_TICKING]) {
         slot(table, table[FIRST_TICKING])[WAIT]--;
         done = fire(table, FIRST_TICKING, 0, &last_queued, fired);
