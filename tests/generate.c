@@ -43,7 +43,7 @@ void random_manner(void)
     span = ONE_OF(spans);
     with_server = !one_in(6);
     serving = one_in(3);
-    queue_wanted = one_in(4) ? 1 : 3 + below(one_in(3) ? 20 : 2);
+    queue_wanted = one_in(4) ? 1 : 3 + below(one_in(3) ? 60 : 2);
 }
 
 /* A number near another: the same, one more or less, or a few more. */
@@ -69,7 +69,7 @@ static uint32_t queued_index(const struct oracle *o)
 static uint32_t random_id(const struct oracle *o)
 {
     uint32_t index = 1 + below(o->slots);
-    if (o->queued > 0 && one_in(o->queued < queue_wanted ? 8 : 2))
+    if (o->queued > 0 && one_in(o->queued < queue_wanted ? 16 : 2))
         return ID_BASE + queued_index(o);
     for (int tries = 0; tries < 8 && !o->timer[index].exists; tries++)
         index = 1 + below(o->slots);
@@ -227,8 +227,8 @@ static size_t random_serve_list_length(void)
 static enum call_kind random_kind(const struct oracle *o)
 {
     static const uint32_t weights[CALLS] = {
-        [CREATE] = 6, [IDENT] = 2, [CANCEL] = 3, [DELETE] = 3, [FIRE_AFTER] = 5, [FIRE_WHEN] = 6, [FIRE_EVERY] = 5,
-        [RESET] = 4, [TICKS_LEFT] = 3, [TICK] = 10, [SET_CLOCK] = 3, [GET_CLOCK] = 2, [INITIATE_SERVER] = 1,
+        [CREATE] = 7, [IDENT] = 3, [CANCEL] = 4, [DELETE] = 4, [FIRE_AFTER] = 5, [FIRE_WHEN] = 6, [FIRE_EVERY] = 5,
+        [RESET] = 4, [TICKS_LEFT] = 3, [TICK] = 10, [SET_CLOCK] = 3, [GET_CLOCK] = 3, [INITIATE_SERVER] = 1,
         [SERVER_FIRE_AFTER] = 7, [SERVER_FIRE_WHEN] = 9, [SERVE] = 8};
     enum call_kind kind = weighted_call(weights);
     if (!o->initiated && with_server && one_in(4))
