@@ -39,7 +39,8 @@
  *
  * The server is for routines too long for the interrupt that ticks. A timer started by hc_server_fire_after or
  * hc_server_fire_when is not listed when it is due: it goes to the back of a queue, from which hc_serve hands out one at a
- * time. So the interrupt calls hc_tick and runs what is listed; a task calls hc_serve and runs what it is handed.
+ * time. So the interrupt calls hc_tick and runs what is listed; a task calls hc_serve, with the interrupt kept out during
+ * the call, and runs what it is handed.
  *
  * What the caller must see to:
  *   - No pointer is null, and each is aligned for its type.

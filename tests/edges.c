@@ -327,11 +327,11 @@ static void list_stays(uint32_t from)
         is("list word that stays", 1000 + i, list[i]);
 }
 
-/* A serve hands out this timer; 0 for none. */
-static void hands_out(uint32_t id, uint32_t routine, uint32_t data)
+/* A serve with so many words of list hands out this timer; 0 for none. */
+static void hands_out_with(size_t length, uint32_t id, uint32_t routine, uint32_t data)
 {
     fill_list();
-    is("serve", 0, serve(HC_SERVED_WORDS));
+    is("serve", 0, serve(length));
     is("answer", id != 0, answer);
     list_stays(id == 0 ? 0 : FIRED_WORDS);
     if (id == 0)
@@ -341,6 +341,11 @@ static void hands_out(uint32_t id, uint32_t routine, uint32_t data)
     is("its data", data, list[FIRED_DATA]);
     is("it is off the queue: next", 0, word_of(id, SLOT_NEXT));
     is("it is off the queue: previous", 0, word_of(id, SLOT_PREVIOUS));
+}
+
+static void hands_out(uint32_t id, uint32_t routine, uint32_t data)
+{
+    hands_out_with(HC_SERVED_WORDS, id, routine, data);
 }
 
 static const uint32_t no_such_timer = ID_BASE;
@@ -439,9 +444,9 @@ static void queued_in_a_tick(void)
     is("server fire after 1", 0, server_fire_after(one, 1, 7, 71));
     nothing_fires(1);
     queue_is(three, one, 0);
-    hands_out(three, 9, 90);
-    hands_out(one, 7, 71);
-    hands_out(0, 0, 0);
+    hands_out_with(HC_SERVED_WORDS + 1, three, 9, 90);
+    hands_out_with(LIST, one, 7, 71);
+    hands_out_with(LIST, 0, 0, 0);
     is("reset", 0, reset(three));
     is("it waits as a server timer", KIND_SERVER_TICKING, kind(3));
     nothing_fires(5);
