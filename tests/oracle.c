@@ -83,7 +83,12 @@ static const uint32_t orders[CALLS][MOST_REFUSALS] = {
     [GET_CLOCK] = {100, 11}, [INITIATE_SERVER] = {100, 14}, [SERVER_FIRE_AFTER] = {100, 14, 10, 9, 4},
     [SERVER_FIRE_WHEN] = {100, 14, 11, 9, 20, 4}, [SERVE] = {100, 101, 14}};
 
-/* ---- Calls and kinds ---- */
+/* ---- Reasons, calls and kinds ---- */
+
+static uint64_t bit(enum reason reason, bool applies)
+{
+    return applies ? UINT64_C(1) << reason : 0;
+}
 
 static bool is_start(enum call_kind kind)
 {
@@ -128,6 +133,36 @@ static bool of_server(uint32_t kind)
     return kind >= KIND_IDLE_SERVER_TICKING && kind <= KIND_QUEUED_DATED;
 }
 
+/* Where the slot stands in the queue, from 0; the number of those queued if it does not. */
+static uint32_t place_in_queue(const struct oracle *o, uint32_t index)
+{
+    uint32_t place = 0;
+    while (place < o->queued && o->queue[place] != index)
+        place++;
+    return place;
+}
+
+static uint32_t kind_of(const struct oracle *o, uint32_t index)
+{
+    const struct oracle_timer *t = &o->timer[index];
+    bool dated = t->started == BY_DATE;
+    if (!t->exists)
+        return KIND_FREE;
+    if (t->started == NEVER)
+        return KIND_NEVER_STARTED;
+    if (t->server && t->waiting)
+        return dated ? KIND_SERVER_DATED : KIND_SERVER_TICKING;
+    if (t->server && place_in_queue(o, index) < o->queued)
+        return dated ? KIND_QUEUED_DATED : KIND_QUEUED_TICKING;
+    if (t->server)
+        return dated ? KIND_IDLE_SERVER_DATED : KIND_IDLE_SERVER_TICKING;
+    if (t->periodic)
+        return t->waiting ? KIND_PERIODIC : KIND_IDLE_PERIODIC;
+    if (t->waiting)
+        return dated ? KIND_DATED : KIND_TICKING;
+    return dated ? KIND_IDLE_DATED : KIND_IDLE_TICKING;
+}
+
 /* ---- The calendar ---- */
 
 enum { FIRST_YEAR = 1988, YEARS = 112, DAYS = 40908 };
@@ -156,11 +191,6 @@ static void list_days(void)
         if (month > 12)
             month = 1, year++;
     }
-}
-
-static uint64_t bit(enum reason reason, bool applies)
-{
-    return applies ? UINT64_C(1) << reason : 0;
 }
 
 /* The reasons for which no such date exists. */
@@ -253,36 +283,6 @@ static uint64_t fire_when_faults(const struct oracle *o, const struct call *c)
     bool dated = oracle_seconds_of(&c->time, &date);
     return date_faults(&c->time) | bit(DATE_NOT_AFTER, o->clock_set && dated && date <= o->seconds) |
            bit(CLOCK_UNSET, !o->clock_set) | bit(ROUTINE_ZERO, c->routine == 0) | id_faults(o, c->id);
-}
-
-/* Where the slot stands in the queue, from 0; their number if it does not. */
-static uint32_t place_in_queue(const struct oracle *o, uint32_t index)
-{
-    uint32_t place = 0;
-    while (place < o->queued && o->queue[place] != index)
-        place++;
-    return place;
-}
-
-static uint32_t kind_of(const struct oracle *o, uint32_t index)
-{
-    const struct oracle_timer *t = &o->timer[index];
-    bool dated = t->started == BY_DATE;
-    if (!t->exists)
-        return KIND_FREE;
-    if (t->started == NEVER)
-        return KIND_NEVER_STARTED;
-    if (t->server && t->waiting)
-        return dated ? KIND_SERVER_DATED : KIND_SERVER_TICKING;
-    if (t->server && place_in_queue(o, index) < o->queued)
-        return dated ? KIND_QUEUED_DATED : KIND_QUEUED_TICKING;
-    if (t->server)
-        return dated ? KIND_IDLE_SERVER_DATED : KIND_IDLE_SERVER_TICKING;
-    if (t->periodic)
-        return t->waiting ? KIND_PERIODIC : KIND_IDLE_PERIODIC;
-    if (t->waiting)
-        return dated ? KIND_DATED : KIND_TICKING;
-    return dated ? KIND_IDLE_DATED : KIND_IDLE_TICKING;
 }
 
 static uint64_t reset_faults(const struct oracle *o, const struct call *c)

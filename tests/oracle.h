@@ -25,6 +25,8 @@ enum {
 };
 enum fired_word { FIRED_ID, FIRED_ROUTINE, FIRED_DATA, FIRED_WORDS };
 
+_Static_assert(HEADER_WORDS == 10 && SLOT_WORDS == 8 && FIRED_WORDS == 3 && KINDS == 14, "the layout's numbers");
+
 enum { MAX_TABLE = HEADER_WORDS + SLOT_WORDS * MAX_SLOTS, MAX_LIST = FIRED_WORDS * MAX_SLOTS };
 #define ID_BASE 0x12010000u
 #define LAST_SECOND 3534451199u
