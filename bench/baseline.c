@@ -8,7 +8,7 @@
 #define LAST_SECOND 3534451199u
 #define NOT_SOUND UINT32_MAX    /* no slot: what the check gives of a table that is not sound */
 
-/* A function that is compiled anew for each constant that it is called with, and one that is kept apart from its caller. */
+/* A function that is compiled into each of its callers, with the constants that they give, and one that is kept apart. */
 #define ALWAYS_INLINE static inline __attribute__((always_inline))
 #define NEVER_INLINE static __attribute__((noinline))
 
@@ -277,7 +277,7 @@ static void date_of(uint32_t seconds, struct hc_wall_time *time)
 
 /* A waiting or queued timer becomes idle of its kind and leaves its chain; any other stays. In the queue the wait that the
  * follower takes over is 0. */
-static void stop(uint32_t *table, uint32_t index)
+ALWAYS_INLINE void stop(uint32_t *table, uint32_t index)
 {
     uint32_t *s = slot(table, index);
     uint32_t chain = chain_of[s[KIND]];
@@ -379,8 +379,9 @@ static inline void enqueue(uint32_t *table, uint32_t index, uint32_t *last_queue
 }
 
 /* Fires the chain's timers whose wait is no more than due, and gives how many are listed; the list begins at fired. Server
- * timers are queued instead. */
-ALWAYS_INLINE uint32_t fire(uint32_t *table, uint32_t first, uint32_t due, uint32_t *last_queued, uint32_t *fired)
+ * timers are queued instead; the caller says whether there may be any. */
+ALWAYS_INLINE uint32_t fire(uint32_t *table, uint32_t first, uint32_t due, bool server, uint32_t *last_queued,
+                            uint32_t *fired)
 {
     uint8_t periodic[MAX_SLOTS];
     uint32_t index = table[first], count = 0, periodics = 0;
@@ -389,7 +390,7 @@ ALWAYS_INLINE uint32_t fire(uint32_t *table, uint32_t first, uint32_t due, uint3
         s[WAIT] = 0;
         s[NEXT] = 0;
         s[PREVIOUS] = 0;
-        if (s[KIND] >= SERVER_TICKING) {
+        if (server && s[KIND] >= SERVER_TICKING) {
             enqueue(table, index, last_queued);
         } else {
             write_entry(fired + FIRED_WORDS * count++, index, s);
@@ -588,6 +589,24 @@ uint32_t CALL(ticks_left)(const uint32_t *table, size_t words, uint32_t id, uint
     return HC_SUCCESSFUL;
 }
 
+/* What a tick does, where there may be server timers or not; gives how many are listed. */
+ALWAYS_INLINE uint32_t pass_tick(uint32_t *table, bool server, uint32_t last_queued, uint32_t *fired)
+{
+    uint32_t done = 0;
+    if (table[FIRST_TICKING]) {
+        slot(table, table[FIRST_TICKING])[WAIT]--;
+        done = fire(table, FIRST_TICKING, 0, server, &last_queued, fired);
+    }
+    if (advance_clock(table))
+        done += fire(table, FIRST_DATED, table[SECONDS], server, &last_queued, fired + FIRED_WORDS * done);
+    return done;
+}
+
+NEVER_INLINE uint32_t pass_server_tick(uint32_t *table, uint32_t last_queued, uint32_t *fired)
+{
+    return pass_tick(table, true, last_queued, fired);
+}
+
 uint32_t CALL(tick)(uint32_t *table, size_t words, uint32_t *fired, size_t fired_words, uint32_t *count)
 {
     *count = 0;
@@ -596,13 +615,7 @@ uint32_t CALL(tick)(uint32_t *table, size_t words, uint32_t *fired, size_t fired
         return HC_NOT_SOUND;
     if (fired_words < FIRED_WORDS * table[SLOTS])
         return HC_LIST_TOO_SHORT;
-    uint32_t done = 0;
-    if (table[FIRST_TICKING]) {
-        slot(table, table[FIRST_TICKING])[WAIT]--;
-        done = fire(table, FIRST_TICKING, 0, &last_queued, fired);
-    }
-    if (advance_clock(table))
-        done += fire(table, FIRST_DATED, table[SECONDS], &last_queued, fired + FIRED_WORDS * done);
+    uint32_t done = table[SERVER] ? pass_server_tick(table, last_queued, fired) : pass_tick(table, false, 0, fired);
     *count = done;
     return HC_SUCCESSFUL;
 }
@@ -621,7 +634,7 @@ uint32_t CALL(set_clock)(uint32_t *table, size_t words, const struct hc_wall_tim
     table[CLOCK_SET] = 1;
     table[SECONDS] = seconds_of(now);
     table[CLOCK_TICKS] = 0;
-    *count = fire(table, FIRST_DATED, table[SECONDS], &last_queued, fired);
+    *count = fire(table, FIRST_DATED, table[SECONDS], true, &last_queued, fired);
     return HC_SUCCESSFUL;
 }
 
