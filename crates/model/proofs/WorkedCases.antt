@@ -15,23 +15,23 @@ use Rattle.model.specs.Demand.{after}
 use Rattle.model.proofs.Cases.{Case, calls, computed, date, nine, unlent}
 
 -- the first and the second id, and lists of three and of six words
-abbrev one : ℕ
+abbrev pub one : ℕ
 one = 0x12010001
 
-abbrev two : ℕ
+abbrev pub two : ℕ
 two = 0x12010002
 
-abbrev three : List ℕ
+abbrev pub three : List ℕ
 three = replicate 3 99
 
 abbrev six : List ℕ
 six = replicate 6 99
 
 -- a refusal, with the zero beside it
-abbrev no : ℕ → List ℕ
+abbrev pub no : ℕ → List ℕ
 no status = status ∷ 0 ∷ []
 
-abbrev yes : ℕ → List ℕ
+abbrev pub yes : ℕ → List ℕ
 yes answer = 0 ∷ answer ∷ []
 
 -- three timers, for 3 ticks, every 3 ticks and for 3 ticks, and three ticks
