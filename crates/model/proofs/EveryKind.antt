@@ -10,16 +10,16 @@ use Rattle.calendar.specs.declared.WallTime.{WallTime}
 use Rattle.calendar.specs.Calendar.{monthsOf, years, valid, secondsOf, dateOf}
 use Rattle.model.specs.Lists.{keep, every}
 use Rattle.model.specs.Status.{when, firstOf, NotSound}
-use Rattle.model.specs.Calls.{Call, layOut, create, ident, cancel, delete, fireAfter, fireWhen, fireEvery, reset, ticksLeft, tick, setClock, getClock, initiateServer, serverFireAfter, serverFireWhen, serve}
+use Rattle.model.specs.Calls.{Call, create, ident, cancel, delete, fireAfter, fireWhen, fireEvery, reset, ticksLeft, tick, setClock, getClock, initiateServer, serverFireAfter, serverFireWhen, serve}
 use Rattle.model.specs.State.{idBase}
 use Rattle.model.specs.Words.{kindOf, read}
 use Rattle.model.specs.Directives.{refusals}
 use Rattle.model.specs.Sound.{headerSound, slotSound, chainSound, ticksSound, datesSound, queueSound, sound}
-use Rattle.model.specs.Outcome.{Outcome, statusOn, refused, accepted, outcome}
-use Rattle.model.proofs.Cases.{Case, calls, computed, date, unlent}
-use Rattle.model.proofs.WorkedCases.{three, no, yes}
+use Rattle.model.specs.Outcome.{Outcome, outcomeOf, statusOn, refused, accepted, outcome}
+use Rattle.model.specs.Demand.{after}
+use Rattle.model.proofs.Cases.{date}
 
--- Slot k is of kind k, and slot 14 is free. It is 2000-01-01 00:00:01 and 3 ticks. In the interval chain are 10, 6 and 4, with 2, 2 and 3 ticks left;
+-- Slot k is of kind k, and slot 14 is free. It is 2000-01-01 00:00:01 and 3 ticks. In the interval chain are 10, 6 and 4, with 1, 1 and 2 ticks left;
 -- in the dated chain 11 and 5; in the queue 13 and 12.
 abbrev pub everyKind : List ℕ
 everyKind =
@@ -33,7 +33,7 @@ everyKind =
     ∷ 7 ∷ 7 ∷ 5 ∷ 0 ∷ 27 ∷ 70 ∷ 0 ∷ 0
     ∷ 8 ∷ 8 ∷ 5 ∷ 0 ∷ 28 ∷ 80 ∷ 0 ∷ 0
     ∷ 9 ∷ 9 ∷ 0 ∷ 0 ∷ 29 ∷ 90 ∷ 0 ∷ 0
-    ∷ 10 ∷ 10 ∷ 5 ∷ 2 ∷ 30 ∷ 100 ∷ 6 ∷ 0
+    ∷ 10 ∷ 10 ∷ 5 ∷ 1 ∷ 30 ∷ 100 ∷ 6 ∷ 0
     ∷ 11 ∷ 11 ∷ 0 ∷ 378691209 ∷ 31 ∷ 110 ∷ 5 ∷ 0
     ∷ 12 ∷ 12 ∷ 5 ∷ 0 ∷ 32 ∷ 120 ∷ 0 ∷ 13
     ∷ 13 ∷ 13 ∷ 0 ∷ 0 ∷ 33 ∷ 130 ∷ 12 ∷ 0
@@ -60,6 +60,16 @@ atEach f c =
     ∷ map (λ i. getD (f (c (idBase + i)) .answer) 0 99) (from 0 16)
     ∷ map (λ i. kindOf (f (c (idBase + i)) .table) i) (from 1 13) ∷ []
 
+-- where the words of two tables differ, from word i on: its number, and what it is in the second
+abbrev differences : ℕ → List ℕ → List ℕ → List (ℕ × ℕ)
+differences i [] [] = []
+differences i [] (v ∷ vs) = (i, v) ∷ differences (suc i) [] vs
+differences i (u ∷ us) [] = (i, 0) ∷ differences (suc i) us []
+differences i (u ∷ us) (v ∷ vs) = cond (eqb u v) (differences (suc i) us vs) ((i, v) ∷ differences (suc i) us vs)
+
+abbrev changesAt : (Call → Outcome) → (ℕ → Call) → List (List (ℕ × ℕ))
+changesAt f c = map (λ i. differences 0 everyKind (f (c (idBase + i)) .table)) (from 1 13)
+
 -- 4 where there is no timer: slot 0, the free one, and past the last
 abbrev named : List ℕ → List ℕ
 named statuses = 4 ∷ statuses ++ (4 ∷ 4 ∷ [])
@@ -83,104 +93,57 @@ idResults =
     ∷ (named (11 ∷ 0 ∷ 11 ∷ 0 ∷ 11 ∷ 0 ∷ 0 ∷ 0 ∷ 11 ∷ 0 ∷ 11 ∷ 0 ∷ 11 ∷ []) ∷ replicate 16 0
     ∷ (1 ∷ 4 ∷ 3 ∷ 4 ∷ 5 ∷ 6 ∷ 6 ∷ 10 ∷ 9 ∷ 10 ∷ 11 ∷ 10 ∷ 13 ∷ []) ∷ [])
     -- Ticks left: of 4, 6 and 10; of any other 0.
-    ∷ (named (replicate 13 0) ∷ (replicate 4 0 ++ (3 ∷ 0 ∷ 2 ∷ 0 ∷ 0 ∷ 0 ∷ 2 ∷ replicate 5 0)) ∷ from 1 13 ∷ [])
+    ∷ (named (replicate 13 0) ∷ (replicate 4 0 ++ (2 ∷ 0 ∷ 1 ∷ 0 ∷ 0 ∷ 0 ∷ 1 ∷ replicate 5 0)) ∷ from 1 13 ∷ [])
     -- Each start takes every kind.
     ∷ accepts 4 ∷ accepts 5 ∷ accepts 6 ∷ accepts 10 ∷ accepts 11 ∷ []
 
--- what comes of a call where it is given whether the table is sound, so that this is computed once and not for each call
-abbrev statusIf : Bool → Call → ℕ
-statusIf b c = firstOf (when NotSound (not b) ∷ drop 1 (refusals everyKind (read everyKind) c))
-
-abbrev outcomeIf : Bool → Call → Outcome
-outcomeIf b c = cond (eqb (statusIf b c) 0) (accepted everyKind c) (refused (statusIf b c) everyKind c)
-
-if-sound : map (atEach (outcomeIf true)) idCalls ≡ idResults
-unfolding monthsOf years valid secondsOf
-if-sound = refl
-
-pub each-kind : map (atEach (outcome everyKind)) idCalls ≡ idResults
-unfolding statusOn outcome
-each-kind = subst (λ (b : Bool). map (atEach (outcomeIf b)) idCalls ≡ idResults) (sym is-sound) if-sound
-
--- ---- the words that calls leave
+-- ---- every call that takes no id
 
 abbrev list : ℕ → List ℕ
 list n = replicate n 99
 
-abbrev ids : List ℕ
-ids = map (λ i. idBase + i) (from 1 13)
+abbrev pub otherCalls : List Call
+otherCalls =
+    create 0 ∷ create 7 ∷ ident 0 ∷ ident 7 ∷ ident 12 ∷ ident 14
+    ∷ tick (list 41) ∷ tick (list 42) ∷ setClock (at 60) (list 41) ∷ setClock (at 60) (list 42) ∷ setClock (at 10) (list 42) ∷ getClock
+    ∷ initiateServer ∷ serve (list 2) ∷ serve (list 3) ∷ []
 
-abbrev pub kindCases : List Case
-kindCases =
-    -- Cancel of each.
-    calls everyKind (map cancel ids) (replicate 13 (yes 0)) (unlent 13)
-    (14 ∷ 10 ∷ 1 ∷ 378691201 ∷ 3 ∷ 0 ∷ 0 ∷ 0 ∷ 1 ∷ 0
+-- a call that leaves table and list as they are
+abbrev keeps : ℕ → List ℕ → List ℕ → Outcome
+keeps status answer lent = outcomeOf status answer everyKind lent
+
+abbrev pub otherOutcomes : List Outcome
+otherOutcomes =
+    -- Create: 3, and the free slot. Ident: 3, a timer of any kind, and 3.
+    keeps 3 (0 ∷ []) []
+    ∷ outcomeOf 0 ((idBase + 14) ∷ [])
+    (14 ∷ 10 ∷ 1 ∷ 378691201 ∷ 3 ∷ 10 ∷ 11 ∷ 0 ∷ 1 ∷ 13
     ∷ 1 ∷ 1 ∷ 0 ∷ 0 ∷ 0 ∷ 0 ∷ 0 ∷ 0
     ∷ 2 ∷ 2 ∷ 5 ∷ 0 ∷ 22 ∷ 20 ∷ 0 ∷ 0
     ∷ 3 ∷ 3 ∷ 0 ∷ 0 ∷ 23 ∷ 30 ∷ 0 ∷ 0
-    ∷ 2 ∷ 4 ∷ 5 ∷ 0 ∷ 24 ∷ 40 ∷ 0 ∷ 0
-    ∷ 3 ∷ 5 ∷ 0 ∷ 0 ∷ 25 ∷ 50 ∷ 0 ∷ 0
-    ∷ 7 ∷ 6 ∷ 5 ∷ 0 ∷ 26 ∷ 60 ∷ 0 ∷ 0
+    ∷ 4 ∷ 4 ∷ 5 ∷ 1 ∷ 24 ∷ 40 ∷ 0 ∷ 6
+    ∷ 5 ∷ 5 ∷ 0 ∷ 378691210 ∷ 25 ∷ 50 ∷ 0 ∷ 11
+    ∷ 6 ∷ 6 ∷ 5 ∷ 0 ∷ 26 ∷ 60 ∷ 4 ∷ 10
     ∷ 7 ∷ 7 ∷ 5 ∷ 0 ∷ 27 ∷ 70 ∷ 0 ∷ 0
     ∷ 8 ∷ 8 ∷ 5 ∷ 0 ∷ 28 ∷ 80 ∷ 0 ∷ 0
     ∷ 9 ∷ 9 ∷ 0 ∷ 0 ∷ 29 ∷ 90 ∷ 0 ∷ 0
-    ∷ 8 ∷ 10 ∷ 5 ∷ 0 ∷ 30 ∷ 100 ∷ 0 ∷ 0
-    ∷ 9 ∷ 11 ∷ 0 ∷ 0 ∷ 31 ∷ 110 ∷ 0 ∷ 0
-    ∷ 8 ∷ 12 ∷ 5 ∷ 0 ∷ 32 ∷ 120 ∷ 0 ∷ 0
-    ∷ 9 ∷ 13 ∷ 0 ∷ 0 ∷ 33 ∷ 130 ∷ 0 ∷ 0
-    ∷ replicate 8 0)
-    -- Reset of each: those that it takes are in one chain then, each with its interval, behind equals.
-    ∷ calls everyKind (map reset ids) (no 11 ∷ yes 0 ∷ no 11 ∷ yes 0 ∷ no 11 ∷ yes 0 ∷ yes 0 ∷ yes 0 ∷ no 11 ∷ yes 0 ∷ no 11 ∷ yes 0 ∷ no 11 ∷ []) (unlent 13)
-    (14 ∷ 10 ∷ 1 ∷ 378691201 ∷ 3 ∷ 2 ∷ 11 ∷ 0 ∷ 1 ∷ 13
-    ∷ 1 ∷ 1 ∷ 0 ∷ 0 ∷ 0 ∷ 0 ∷ 0 ∷ 0
-    ∷ 4 ∷ 2 ∷ 5 ∷ 5 ∷ 22 ∷ 20 ∷ 4 ∷ 0
-    ∷ 3 ∷ 3 ∷ 0 ∷ 0 ∷ 23 ∷ 30 ∷ 0 ∷ 0
-    ∷ 4 ∷ 4 ∷ 5 ∷ 0 ∷ 24 ∷ 40 ∷ 6 ∷ 2
-    ∷ 5 ∷ 5 ∷ 0 ∷ 378691210 ∷ 25 ∷ 50 ∷ 0 ∷ 11
-    ∷ 6 ∷ 6 ∷ 5 ∷ 0 ∷ 26 ∷ 60 ∷ 7 ∷ 4
-    ∷ 6 ∷ 7 ∷ 5 ∷ 0 ∷ 27 ∷ 70 ∷ 8 ∷ 6
-    ∷ 10 ∷ 8 ∷ 5 ∷ 0 ∷ 28 ∷ 80 ∷ 10 ∷ 7
-    ∷ 9 ∷ 9 ∷ 0 ∷ 0 ∷ 29 ∷ 90 ∷ 0 ∷ 0
-    ∷ 10 ∷ 10 ∷ 5 ∷ 0 ∷ 30 ∷ 100 ∷ 12 ∷ 8
+    ∷ 10 ∷ 10 ∷ 5 ∷ 1 ∷ 30 ∷ 100 ∷ 6 ∷ 0
     ∷ 11 ∷ 11 ∷ 0 ∷ 378691209 ∷ 31 ∷ 110 ∷ 5 ∷ 0
-    ∷ 10 ∷ 12 ∷ 5 ∷ 0 ∷ 32 ∷ 120 ∷ 0 ∷ 10
-    ∷ 13 ∷ 13 ∷ 0 ∷ 0 ∷ 33 ∷ 130 ∷ 0 ∷ 0
-    ∷ replicate 8 0)
-    -- Delete of each: only the header is left. The lowest slot is the next to be taken.
-    ∷ calls everyKind (map delete ids ++ (create 99 ∷ [])) (replicate 13 (yes 0) ++ (yes (idBase + 1) ∷ [])) (unlent 14)
-    (14 ∷ 10 ∷ 1 ∷ 378691201 ∷ 3 ∷ 0 ∷ 0 ∷ 0 ∷ 1 ∷ 0 ∷ 1 ∷ 99 ∷ replicate 110 0)
-    -- A start of each, in the five modes one after the other.
-    ∷ calls everyKind
-    (fireAfter (idBase + 1) 4 7 70 ∷ fireWhen (idBase + 2) (at 9) 7 70 ∷ fireEvery (idBase + 3) 4 7 70 ∷ serverFireAfter (idBase + 4) 4 7 70
-    ∷ serverFireWhen (idBase + 5) (at 9) 7 70 ∷ fireAfter (idBase + 6) 4 7 70 ∷ fireWhen (idBase + 7) (at 9) 7 70 ∷ fireEvery (idBase + 8) 4 7 70
-    ∷ serverFireAfter (idBase + 9) 4 7 70 ∷ serverFireWhen (idBase + 10) (at 9) 7 70 ∷ fireAfter (idBase + 11) 4 7 70
-    ∷ fireWhen (idBase + 12) (at 9) 7 70 ∷ fireEvery (idBase + 13) 4 7 70 ∷ [])
-    (replicate 13 (yes 0)) (unlent 13)
-    (14 ∷ 10 ∷ 1 ∷ 378691201 ∷ 3 ∷ 1 ∷ 2 ∷ 0 ∷ 1 ∷ 0
-    ∷ 4 ∷ 1 ∷ 4 ∷ 4 ∷ 7 ∷ 70 ∷ 3 ∷ 0
-    ∷ 5 ∷ 2 ∷ 0 ∷ 378691209 ∷ 7 ∷ 70 ∷ 5 ∷ 0
-    ∷ 6 ∷ 3 ∷ 4 ∷ 0 ∷ 7 ∷ 70 ∷ 4 ∷ 1
-    ∷ 10 ∷ 4 ∷ 4 ∷ 0 ∷ 7 ∷ 70 ∷ 6 ∷ 3
-    ∷ 11 ∷ 5 ∷ 0 ∷ 378691209 ∷ 7 ∷ 70 ∷ 7 ∷ 2
-    ∷ 4 ∷ 6 ∷ 4 ∷ 0 ∷ 7 ∷ 70 ∷ 8 ∷ 4
-    ∷ 5 ∷ 7 ∷ 0 ∷ 378691209 ∷ 7 ∷ 70 ∷ 10 ∷ 5
-    ∷ 6 ∷ 8 ∷ 4 ∷ 0 ∷ 7 ∷ 70 ∷ 9 ∷ 6
-    ∷ 10 ∷ 9 ∷ 4 ∷ 0 ∷ 7 ∷ 70 ∷ 11 ∷ 8
-    ∷ 11 ∷ 10 ∷ 0 ∷ 378691209 ∷ 7 ∷ 70 ∷ 12 ∷ 7
-    ∷ 4 ∷ 11 ∷ 4 ∷ 0 ∷ 7 ∷ 70 ∷ 13 ∷ 9
-    ∷ 5 ∷ 12 ∷ 0 ∷ 378691209 ∷ 7 ∷ 70 ∷ 0 ∷ 10
-    ∷ 6 ∷ 13 ∷ 4 ∷ 0 ∷ 7 ∷ 70 ∷ 0 ∷ 11
-    ∷ replicate 8 0)
-    -- A list of 41 words is too short. In the second tick 10 is queued, behind the others, and 6 listed; in the third 4.
-    ∷ calls everyKind (tick (list 41) ∷ tick (list 42) ∷ tick (list 42) ∷ tick (list 42) ∷ []) (no 101 ∷ yes 0 ∷ yes 1 ∷ yes 1 ∷ [])
-    (list 41 ∷ list 42 ∷ ((idBase + 6) ∷ 26 ∷ 60 ∷ list 39) ∷ ((idBase + 4) ∷ 24 ∷ 40 ∷ list 39) ∷ [])
-    (14 ∷ 10 ∷ 1 ∷ 378691201 ∷ 6 ∷ 6 ∷ 11 ∷ 0 ∷ 1 ∷ 13
+    ∷ 12 ∷ 12 ∷ 5 ∷ 0 ∷ 32 ∷ 120 ∷ 0 ∷ 13
+    ∷ 13 ∷ 13 ∷ 0 ∷ 0 ∷ 33 ∷ 130 ∷ 12 ∷ 0
+    ∷ 1 ∷ 7 ∷ 0 ∷ 0 ∷ 0 ∷ 0 ∷ 0 ∷ 0 ∷ [])
+    []
+    ∷ keeps 3 (0 ∷ []) [] ∷ keeps 0 ((idBase + 7) ∷ []) [] ∷ keeps 0 ((idBase + 12) ∷ []) [] ∷ keeps 3 (0 ∷ []) []
+    -- Tick: 101; 10 is queued, behind the others, and 6 is listed and goes back.
+    ∷ keeps 101 (0 ∷ []) (list 41)
+    ∷ outcomeOf 0 (1 ∷ [])
+    (14 ∷ 10 ∷ 1 ∷ 378691201 ∷ 4 ∷ 4 ∷ 11 ∷ 0 ∷ 1 ∷ 13
     ∷ 1 ∷ 1 ∷ 0 ∷ 0 ∷ 0 ∷ 0 ∷ 0 ∷ 0
     ∷ 2 ∷ 2 ∷ 5 ∷ 0 ∷ 22 ∷ 20 ∷ 0 ∷ 0
     ∷ 3 ∷ 3 ∷ 0 ∷ 0 ∷ 23 ∷ 30 ∷ 0 ∷ 0
-    ∷ 2 ∷ 4 ∷ 5 ∷ 0 ∷ 24 ∷ 40 ∷ 0 ∷ 0
+    ∷ 4 ∷ 4 ∷ 5 ∷ 1 ∷ 24 ∷ 40 ∷ 6 ∷ 0
     ∷ 5 ∷ 5 ∷ 0 ∷ 378691210 ∷ 25 ∷ 50 ∷ 0 ∷ 11
-    ∷ 6 ∷ 6 ∷ 5 ∷ 4 ∷ 26 ∷ 60 ∷ 0 ∷ 0
+    ∷ 6 ∷ 6 ∷ 5 ∷ 4 ∷ 26 ∷ 60 ∷ 0 ∷ 4
     ∷ 7 ∷ 7 ∷ 5 ∷ 0 ∷ 27 ∷ 70 ∷ 0 ∷ 0
     ∷ 8 ∷ 8 ∷ 5 ∷ 0 ∷ 28 ∷ 80 ∷ 0 ∷ 0
     ∷ 9 ∷ 9 ∷ 0 ∷ 0 ∷ 29 ∷ 90 ∷ 0 ∷ 0
@@ -189,9 +152,10 @@ kindCases =
     ∷ 12 ∷ 12 ∷ 5 ∷ 0 ∷ 32 ∷ 120 ∷ 10 ∷ 13
     ∷ 13 ∷ 13 ∷ 0 ∷ 0 ∷ 33 ∷ 130 ∷ 12 ∷ 0
     ∷ replicate 8 0)
-    -- A set clock queues 11 and lists 5.
-    ∷ calls everyKind (setClock (at 10) (list 41) ∷ setClock (at 60) (list 42) ∷ setClock (at 10) (list 42) ∷ []) (no 101 ∷ no 20 ∷ yes 1 ∷ [])
-    (list 41 ∷ list 42 ∷ ((idBase + 5) ∷ 25 ∷ 50 ∷ list 39) ∷ [])
+    ((idBase + 6) ∷ 26 ∷ 60 ∷ list 39)
+    -- Set clock: 101, 20; 11 is queued, behind the others, and 5 is listed. Get clock.
+    ∷ keeps 101 (0 ∷ []) (list 41) ∷ keeps 20 (0 ∷ []) (list 42)
+    ∷ outcomeOf 0 (1 ∷ [])
     (14 ∷ 10 ∷ 1 ∷ 378691210 ∷ 0 ∷ 10 ∷ 0 ∷ 0 ∷ 1 ∷ 13
     ∷ 1 ∷ 1 ∷ 0 ∷ 0 ∷ 0 ∷ 0 ∷ 0 ∷ 0
     ∷ 2 ∷ 2 ∷ 5 ∷ 0 ∷ 22 ∷ 20 ∷ 0 ∷ 0
@@ -202,15 +166,17 @@ kindCases =
     ∷ 7 ∷ 7 ∷ 5 ∷ 0 ∷ 27 ∷ 70 ∷ 0 ∷ 0
     ∷ 8 ∷ 8 ∷ 5 ∷ 0 ∷ 28 ∷ 80 ∷ 0 ∷ 0
     ∷ 9 ∷ 9 ∷ 0 ∷ 0 ∷ 29 ∷ 90 ∷ 0 ∷ 0
-    ∷ 10 ∷ 10 ∷ 5 ∷ 2 ∷ 30 ∷ 100 ∷ 6 ∷ 0
+    ∷ 10 ∷ 10 ∷ 5 ∷ 1 ∷ 30 ∷ 100 ∷ 6 ∷ 0
     ∷ 13 ∷ 11 ∷ 0 ∷ 0 ∷ 31 ∷ 110 ∷ 0 ∷ 12
     ∷ 12 ∷ 12 ∷ 5 ∷ 0 ∷ 32 ∷ 120 ∷ 11 ∷ 13
     ∷ 13 ∷ 13 ∷ 0 ∷ 0 ∷ 33 ∷ 130 ∷ 12 ∷ 0
     ∷ replicate 8 0)
-    -- A serve hands out 13, then 12.
-    ∷ calls everyKind (serve (list 2) ∷ serve three ∷ serve three ∷ serve three ∷ []) (no 101 ∷ yes 1 ∷ yes 1 ∷ yes 0 ∷ [])
-    (list 2 ∷ ((idBase + 13) ∷ 33 ∷ 130 ∷ []) ∷ ((idBase + 12) ∷ 32 ∷ 120 ∷ []) ∷ three ∷ [])
-    (14 ∷ 10 ∷ 1 ∷ 378691201 ∷ 3 ∷ 10 ∷ 11 ∷ 0 ∷ 1 ∷ 0
+    ((idBase + 5) ∷ 25 ∷ 50 ∷ list 39)
+    ∷ keeps 0 (2000 ∷ 1 ∷ 1 ∷ 0 ∷ 0 ∷ 1 ∷ 3 ∷ []) []
+    -- Initiate: 14. Serve: 101, and 13, which is the front.
+    ∷ keeps 14 (0 ∷ []) [] ∷ keeps 101 (0 ∷ []) (list 2)
+    ∷ outcomeOf 0 (1 ∷ [])
+    (14 ∷ 10 ∷ 1 ∷ 378691201 ∷ 3 ∷ 10 ∷ 11 ∷ 0 ∷ 1 ∷ 12
     ∷ 1 ∷ 1 ∷ 0 ∷ 0 ∷ 0 ∷ 0 ∷ 0 ∷ 0
     ∷ 2 ∷ 2 ∷ 5 ∷ 0 ∷ 22 ∷ 20 ∷ 0 ∷ 0
     ∷ 3 ∷ 3 ∷ 0 ∷ 0 ∷ 23 ∷ 30 ∷ 0 ∷ 0
@@ -220,23 +186,76 @@ kindCases =
     ∷ 7 ∷ 7 ∷ 5 ∷ 0 ∷ 27 ∷ 70 ∷ 0 ∷ 0
     ∷ 8 ∷ 8 ∷ 5 ∷ 0 ∷ 28 ∷ 80 ∷ 0 ∷ 0
     ∷ 9 ∷ 9 ∷ 0 ∷ 0 ∷ 29 ∷ 90 ∷ 0 ∷ 0
-    ∷ 10 ∷ 10 ∷ 5 ∷ 2 ∷ 30 ∷ 100 ∷ 6 ∷ 0
+    ∷ 10 ∷ 10 ∷ 5 ∷ 1 ∷ 30 ∷ 100 ∷ 6 ∷ 0
     ∷ 11 ∷ 11 ∷ 0 ∷ 378691209 ∷ 31 ∷ 110 ∷ 5 ∷ 0
-    ∷ 8 ∷ 12 ∷ 5 ∷ 0 ∷ 32 ∷ 120 ∷ 0 ∷ 0
+    ∷ 12 ∷ 12 ∷ 5 ∷ 0 ∷ 32 ∷ 120 ∷ 0 ∷ 0
     ∷ 9 ∷ 13 ∷ 0 ∷ 0 ∷ 33 ∷ 130 ∷ 0 ∷ 0
     ∷ replicate 8 0)
-    -- Calls that leave it as it is; ident finds a timer of any kind.
-    ∷ calls everyKind (initiateServer ∷ getClock ∷ create 0 ∷ ident 0 ∷ ident 8 ∷ ident 11 ∷ ident 13 ∷ ident 14 ∷ layOut 0 10 ∷ layOut 15 10 ∷ [])
-    (no 14 ∷ (0 ∷ 2000 ∷ 1 ∷ 1 ∷ 0 ∷ 0 ∷ 1 ∷ 3 ∷ []) ∷ no 3 ∷ no 3 ∷ yes (idBase + 8) ∷ yes (idBase + 11) ∷ yes (idBase + 13) ∷ no 3 ∷ no 10 ∷ no 8 ∷ [])
-    (unlent 10) everyKind
-    -- The free slot is taken, and then there is none.
-    ∷ calls everyKind (create 7 ∷ create 7 ∷ ident 7 ∷ layOut 14 10 ∷ []) (yes (idBase + 14) ∷ no 5 ∷ yes (idBase + 7) ∷ yes 0 ∷ []) (unlent 4)
-    (14 ∷ 10 ∷ replicate 120 0)
+    ((idBase + 13) ∷ 33 ∷ 130 ∷ [])
     ∷ []
 
-pub kinds-computed : map computed kindCases ≡ kindCases
-unfolding monthsOf years valid secondsOf dateOf headerSound slotSound chainSound ticksSound datesSound queueSound sound statusOn outcome
-kinds-computed = refl
+-- what comes of a call where it is given whether the table is sound, so that this is computed once and not for each call
+abbrev statusIf : Bool → Call → ℕ
+statusIf b c = firstOf (when NotSound (not b) ∷ drop 1 (refusals everyKind (read everyKind) c))
+
+abbrev outcomeIf : Bool → Call → Outcome
+outcomeIf b c = cond (eqb (statusIf b c) 0) (accepted everyKind c) (refused (statusIf b c) everyKind c)
+
+ids-if-sound : map (atEach (outcomeIf true)) idCalls ≡ idResults
+unfolding monthsOf years valid secondsOf
+ids-if-sound = refl
+
+pub at-each-kind : map (atEach (outcome everyKind)) idCalls ≡ idResults
+unfolding statusOn outcome
+at-each-kind = subst (λ (b : Bool). map (atEach (outcomeIf b)) idCalls ≡ idResults) (sym is-sound) ids-if-sound
+
+-- Every word that a cancel changes, and a reset, of each timer from slot 1 on: its number and what it becomes.
+abbrev pub changedWords : List (List (List (ℕ × ℕ)))
+changedWords =
+    ([] ∷ [] ∷ [] ∷ ((34, 2) ∷ (37, 0) ∷ (41, 0) ∷ (56, 0) ∷ []) ∷ ((42, 3) ∷ (45, 0) ∷ (49, 0) ∷ (96, 0) ∷ [])
+    ∷ ((41, 10) ∷ (50, 7) ∷ (56, 0) ∷ (57, 0) ∷ (88, 4) ∷ []) ∷ [] ∷ [] ∷ [] ∷ ((5, 6) ∷ (53, 1) ∷ (57, 0) ∷ (82, 8) ∷ (85, 0) ∷ (88, 0) ∷ [])
+    ∷ ((6, 5) ∷ (49, 0) ∷ (90, 9) ∷ (93, 0) ∷ (96, 0) ∷ []) ∷ ((98, 8) ∷ (105, 0) ∷ (112, 0) ∷ []) ∷ ((9, 12) ∷ (105, 0) ∷ (106, 9) ∷ (112, 0) ∷ []) ∷ [])
+    ∷ ([] ∷ ((18, 4) ∷ (21, 3) ∷ (25, 4) ∷ (40, 2) ∷ []) ∷ [] ∷ ((37, 4) ∷ []) ∷ [] ∷ ((40, 6) ∷ (41, 10) ∷ (53, 3) ∷ (56, 0) ∷ (57, 4) ∷ (88, 4) ∷ [])
+    ∷ ((40, 7) ∷ (58, 6) ∷ (61, 3) ∷ (65, 4) ∷ []) ∷ ((40, 8) ∷ (66, 10) ∷ (69, 3) ∷ (73, 4) ∷ []) ∷ []
+    ∷ ((5, 6) ∷ (40, 10) ∷ (53, 1) ∷ (57, 0) ∷ (85, 3) ∷ (88, 0) ∷ (89, 4) ∷ []) ∷ [] ∷ ((40, 12) ∷ (98, 10) ∷ (101, 3) ∷ (105, 4) ∷ (112, 0) ∷ []) ∷ [] ∷ [])
+    ∷ []
+
+changes-if-sound : map (changesAt (outcomeIf true)) (cancel ∷ reset ∷ []) ≡ changedWords
+changes-if-sound = refl
+
+pub cancel-and-reset : map (changesAt (outcome everyKind)) (cancel ∷ reset ∷ []) ≡ changedWords
+unfolding statusOn outcome
+cancel-and-reset = subst (λ (b : Bool). map (changesAt (outcomeIf b)) (cancel ∷ reset ∷ []) ≡ changedWords) (sym is-sound) changes-if-sound
+
+others-if-sound : map (outcomeIf true) otherCalls ≡ otherOutcomes
+unfolding monthsOf years valid secondsOf dateOf
+others-if-sound = refl
+
+pub with-every-kind : map (outcome everyKind) otherCalls ≡ otherOutcomes
+unfolding statusOn outcome
+with-every-kind = subst (λ (b : Bool). map (outcomeIf b) otherCalls ≡ otherOutcomes) (sym is-sound) others-if-sound
+
+-- Each start of a waiting or queued timer takes it off its chain: one after the other, in another chain or mode than before.
+pub all-started : after everyKind
+    (serverFireWhen (idBase + 4) (at 9) 7 70 ∷ serverFireAfter (idBase + 5) 4 7 70 ∷ serverFireAfter (idBase + 6) 4 7 70 ∷ fireWhen (idBase + 10) (at 9) 7 70
+    ∷ fireEvery (idBase + 11) 4 7 70 ∷ fireAfter (idBase + 12) 4 7 70 ∷ serverFireWhen (idBase + 13) (at 10) 7 70 ∷ [])
+    ≡ 14 ∷ 10 ∷ 1 ∷ 378691201 ∷ 3 ∷ 5 ∷ 4 ∷ 0 ∷ 1 ∷ 0
+    ∷ 1 ∷ 1 ∷ 0 ∷ 0 ∷ 0 ∷ 0 ∷ 0 ∷ 0
+    ∷ 2 ∷ 2 ∷ 5 ∷ 0 ∷ 22 ∷ 20 ∷ 0 ∷ 0
+    ∷ 3 ∷ 3 ∷ 0 ∷ 0 ∷ 23 ∷ 30 ∷ 0 ∷ 0
+    ∷ 11 ∷ 4 ∷ 0 ∷ 378691209 ∷ 7 ∷ 70 ∷ 10 ∷ 0
+    ∷ 10 ∷ 5 ∷ 4 ∷ 4 ∷ 7 ∷ 70 ∷ 6 ∷ 0
+    ∷ 10 ∷ 6 ∷ 4 ∷ 0 ∷ 7 ∷ 70 ∷ 11 ∷ 5
+    ∷ 7 ∷ 7 ∷ 5 ∷ 0 ∷ 27 ∷ 70 ∷ 0 ∷ 0
+    ∷ 8 ∷ 8 ∷ 5 ∷ 0 ∷ 28 ∷ 80 ∷ 0 ∷ 0
+    ∷ 9 ∷ 9 ∷ 0 ∷ 0 ∷ 29 ∷ 90 ∷ 0 ∷ 0
+    ∷ 5 ∷ 10 ∷ 0 ∷ 378691209 ∷ 7 ∷ 70 ∷ 13 ∷ 4
+    ∷ 6 ∷ 11 ∷ 4 ∷ 0 ∷ 7 ∷ 70 ∷ 12 ∷ 6
+    ∷ 4 ∷ 12 ∷ 4 ∷ 0 ∷ 7 ∷ 70 ∷ 0 ∷ 11
+    ∷ 11 ∷ 13 ∷ 0 ∷ 378691210 ∷ 7 ∷ 70 ∷ 0 ∷ 10
+    ∷ replicate 8 0
+unfolding monthsOf years valid secondsOf headerSound slotSound chainSound ticksSound datesSound queueSound sound statusOn outcome
+all-started = refl
 
 -- ---- soundness
 
@@ -251,11 +270,11 @@ damages =
     -- Word 9 is 0, or names a waiting slot, one behind the front, an idle one, a free one, or none.
     ∷ map (set everyKind 9) (0 ∷ 10 ∷ 12 ∷ 8 ∷ 14 ∷ 15 ∷ [])
     -- Kind 14.
-    ++ map (λ i. changed i 0 14) (from 1 14)
+    ++ map (λ i. changed i 0 14) (8 ∷ 10 ∷ 12 ∷ 14 ∷ [])
     -- No name; no routine.
-    ++ map (λ i. changed i 1 0) (from 1 13) ++ map (λ i. changed i 4 0) (from 2 12)
+    ++ map (λ i. changed i 1 0) (from 8 6) ++ map (λ i. changed i 4 0) (from 8 6)
     -- No interval by interval, and one by date.
-    ++ map (λ i. changed i 2 0) (2 ∷ 4 ∷ 6 ∷ 7 ∷ 8 ∷ 10 ∷ 12 ∷ []) ++ map (λ i. changed i 2 1) (1 ∷ 3 ∷ 5 ∷ 9 ∷ 11 ∷ 13 ∷ [])
+    ++ map (λ i. changed i 2 0) (8 ∷ 10 ∷ 12 ∷ []) ++ map (λ i. changed i 2 1) (9 ∷ 11 ∷ 13 ∷ [])
     -- A wait in the queue; a wait or a link of an idle one.
     ++ map (λ i. changed i 3 1) (8 ∷ 9 ∷ 12 ∷ 13 ∷ []) ++ map (λ i. changed i 6 12) (8 ∷ 9 ∷ []) ++ map (λ i. changed i 7 13) (8 ∷ 9 ∷ [])
     -- Next of the front is 0, and 12 outside the queue; itself; a waiting one, an idle one, a free one, or no slot. Next of the end is the front, a loop;
@@ -266,7 +285,7 @@ damages =
     -- 12 or 13 outside the queue: idle, or in another chain.
     ++ changed 8 0 12 ∷ changed 9 0 13 ∷ changed 10 0 12 ∷ changed 11 0 13
     -- Another kind in the queue.
-    ∷ map (changed 12 0) (0 ∷ 1 ∷ 2 ∷ 4 ∷ 6 ∷ 7 ∷ 8 ∷ 10 ∷ 13 ∷ []) ++ map (changed 13 0) (3 ∷ 5 ∷ 9 ∷ 11 ∷ 12 ∷ [])
+    ∷ map (changed 12 0) (8 ∷ 10 ∷ 13 ∷ []) ++ map (changed 13 0) (9 ∷ 11 ∷ 12 ∷ [])
     -- The first wait is 0; ticks left exceed the interval. A date is not above word 3, is above the one behind it, or past the last second.
     ++ map (changed 10 3) (0 ∷ 6 ∷ []) ++ map (changed 11 3) (378691201 ∷ 378691211 ∷ []) ++ changed 5 3 3534451200 ∷ []
 
@@ -276,7 +295,7 @@ damaged = refl
 
 -- The other side: it is sound with an interval of 1, or of its ticks left; with another name, routine or data; with the last second.
 pub undamaged : every sound
-    (changed 8 2 1 ∷ changed 12 2 1 ∷ changed 10 2 2 ∷ changed 12 1 1 ∷ changed 13 4 1 ∷ changed 13 5 0 ∷ changed 11 3 378691202 ∷ changed 5 3 3534451199 ∷ [])
+    (changed 8 2 1 ∷ changed 12 2 1 ∷ changed 10 2 1 ∷ changed 12 1 1 ∷ changed 13 4 1 ∷ changed 13 5 0 ∷ changed 11 3 378691202 ∷ changed 5 3 3534451199 ∷ [])
     ≡ true
 unfolding headerSound slotSound chainSound ticksSound datesSound queueSound sound
 undamaged = refl

@@ -138,7 +138,7 @@ workedCases =
     (unlent 5 ++ (six ∷ (one ∷ 1 ∷ 10 ∷ three) ∷ (two ∷ 2 ∷ 20 ∷ three) ∷ (one ∷ 1 ∷ 10 ∷ three) ∷ six ∷ (two ∷ 2 ∷ 20 ∷ one ∷ 1 ∷ 10 ∷ []) ∷ []))
     (2 ∷ 10 ∷ 0 ∷ 0 ∷ 0 ∷ 1 ∷ 0 ∷ 0 ∷ 0 ∷ 0 ∷ 6 ∷ 1 ∷ 2 ∷ 2 ∷ 1 ∷ 10 ∷ 2 ∷ 0 ∷ 6 ∷ 2 ∷ 3 ∷ 1 ∷ 2 ∷ 20 ∷ 0 ∷ 1 ∷ [])
     -- Soundness and ticks left read 6 as 4 and 7 as 2: the wait is 1 to the interval and the slot is in the chain; the interval is 1 or more, and
-    -- wait and links are zero. There is no kind 8.
+    -- wait and links are zero. Where the server is not initiated there is no kind 8.
     ∷ asked (oneSlot 1 4 3 3) (yes 3) ∷ asked (oneSlot 1 6 3 3) (yes 3)
     ∷ asked (oneSlot 1 4 3 4) (no 100) ∷ asked (oneSlot 1 6 3 4) (no 100)
     ∷ asked (oneSlot 1 4 3 0) (no 100) ∷ asked (oneSlot 1 6 3 0) (no 100)
