@@ -318,11 +318,12 @@ kindsBy isSet server =
     ∷ kindsWith isSet server 0 0 1 (1 ∷ 0 ∷ 0 ∷ 7 ∷ 70 ∷ 0 ∷ 0 ∷ [])
     ∷ []
 
--- Soundness reads 8 to 11 as 2 to 5, 12 and 13 as queued. They occur only when word 8 is 1: where it is 0 no slot is queued either. Where the clock
--- is not set only 5 and 11 do not occur.
-pub kinds-allowed : kindsBy 1 1 ∷ kindsBy 1 0 ∷ kindsBy 0 1 ∷ []
+-- Soundness reads 8 to 11 as 2 to 5, 12 and 13 as queued. They occur only when word 8 is 1: where it is 0 no slot is queued either. It is not 2. Where
+-- the clock is not set only 5 and 11 do not occur.
+pub kinds-allowed : kindsBy 1 1 ∷ kindsBy 1 0 ∷ kindsBy 1 2 ∷ kindsBy 0 1 ∷ []
     ≡ ((0 ∷ []) ∷ (1 ∷ []) ∷ (2 ∷ 7 ∷ 8 ∷ []) ∷ (3 ∷ 9 ∷ []) ∷ (4 ∷ 6 ∷ 10 ∷ []) ∷ (5 ∷ 11 ∷ []) ∷ (12 ∷ []) ∷ (13 ∷ []) ∷ [])
     ∷ ((0 ∷ []) ∷ (1 ∷ []) ∷ (2 ∷ 7 ∷ []) ∷ (3 ∷ []) ∷ (4 ∷ 6 ∷ []) ∷ (5 ∷ []) ∷ [] ∷ [] ∷ [])
+    ∷ replicate 8 []
     ∷ ((0 ∷ []) ∷ (1 ∷ []) ∷ (2 ∷ 7 ∷ 8 ∷ []) ∷ (3 ∷ 9 ∷ []) ∷ (4 ∷ 6 ∷ 10 ∷ []) ∷ [] ∷ (12 ∷ []) ∷ (13 ∷ []) ∷ [])
     ∷ []
 unfolding headerSound slotSound chainSound ticksSound datesSound queueSound sound

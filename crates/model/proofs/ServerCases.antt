@@ -6,13 +6,15 @@ use mathlib.Core.List.{List, [], _∷_, _++_, map}
 use lib.ListN.{replicate}
 use Rattle.calendar.specs.declared.WallTime.{WallTime}
 use Rattle.calendar.specs.Calendar.{monthsOf, years, valid, secondsOf}
-use Rattle.model.specs.Lists.{keep}
+use Rattle.model.specs.Lists.{keep, InOrder}
 use Rattle.model.specs.Calls.{Call, layOut, create, cancel, delete, fireAfter, fireWhen, fireEvery, reset, tick, setClock, initiateServer, serverFireAfter, serverFireWhen, serve}
-use Rattle.model.specs.Kinds.{After, ServerAfter}
+use Rattle.model.specs.Kinds.{Chain, ByTicks, ByDate, After, ServerAfter, ServerWhen}
 use Rattle.model.specs.State.{idBase}
 use Rattle.model.specs.Sound.{headerSound, slotSound, chainSound, ticksSound, datesSound, queueSound, sound}
 use Rattle.model.specs.Outcome.{statusOn, outcome}
-use Rattle.model.specs.History.{Start, startOf, Event, laidOutFor, changes, deletes, oneTick, servesFront, initiates, Placed, starts, fires, isQueued, leftInQueue, takenOff}
+use Rattle.model.specs.History.{Start, startOf, Event, laidOutFor, changes, deletes, oneTick, clockSetTo, initiates, servesFront, Placed, starts, fires, isQueued, inChain, ticksLeftOrDate, Queues, leftInQueue, IsQueue, takenOff}
+use Rattle.model.proofs.Order.{order, order-in-order}
+use Rattle.model.proofs.QueueLaws.{queue-calm, queue-moved}
 use Rattle.model.proofs.Cases.{Case, calls, computed, lists, date, nine, unlent}
 use Rattle.model.proofs.WorkedCases.{one, two, three, no, yes}
 
@@ -239,36 +241,81 @@ taken-off = refl
 
 -- ---- the words of demand 3
 
--- two server timers and another between them, each for one tick
+-- Interval server timers x and z, for one tick, a dated one, d, for second 5, and one that fires, o. It is second 4, with one tick a second.
 abbrev x : Start
 x = startOf one ServerAfter 1 7 70
 
-abbrev y : Start
-y = startOf third ServerAfter 1 9 90
+abbrev d : Start
+d = startOf two ServerWhen 5 8 80
 
-abbrev history : List Event
-history = changes third (some y) ∷ changes two (some (startOf two After 1 8 80)) ∷ changes one (some x) ∷ initiates ∷ laidOutFor 10 ∷ []
+abbrev o : Start
+o = startOf third After 1 9 90
+
+abbrev z : Start
+z = startOf fourth ServerAfter 1 10 100
+
+abbrev before : List Event
+before = changes one (some x) ∷ changes third (some o) ∷ changes two (some d) ∷ initiates ∷ clockSetTo 4 ∷ laidOutFor 1 ∷ []
 
 abbrev idsOf : List Placed → List ℕ
 idsOf l = map (λ (g : Placed). g .begun .id) l
 
--- "Fires" reads "is queued" for them: in the next tick the one fires, they are queued; in the tick after it neither.
-pub fires-or-queued : (idsOf (keep (fires oneTick) (starts history)) ≡ two ∷ []) × (idsOf (keep (isQueued oneTick) (starts history)) ≡ one ∷ third ∷ [])
-fires-or-queued = (refl, refl)
+-- "Fires" reads "is queued" for them: in the next tick o fires, d and x are queued; a set clock to second 5 queues d; and in a second tick nothing is due.
+pub fires-or-queued : map (λ e. idsOf (keep (fires e) (starts before)) ∷ idsOf (keep (isQueued e) (starts before)) ∷ []) (oneTick ∷ clockSetTo 5 ∷ clockSetTo 4 ∷ [])
+    ≡ ((third ∷ []) ∷ (two ∷ one ∷ []) ∷ []) ∷ ([] ∷ (two ∷ []) ∷ []) ∷ ([] ∷ [] ∷ []) ∷ []
+fires-or-queued = refl
 
-pub queued-once : (idsOf (keep (fires oneTick) (starts (oneTick ∷ history))) ≡ []) × (idsOf (keep (isQueued oneTick) (starts (oneTick ∷ history))) ≡ [])
-queued-once = (refl, refl)
+pub queued-once : idsOf (keep (fires oneTick) (starts (oneTick ∷ before))) ∷ idsOf (keep (isQueued oneTick) (starts (oneTick ∷ before))) ∷ [] ≡ [] ∷ [] ∷ []
+queued-once = refl
 
--- How many of x and y are taken off ahead of another: x is cancelled; and the other is handed out after it. x is handed out, and cancelled when
--- it is no more ahead; x is started again, and the new start ended: it counts once. One is started again, the other deleted. Calls of another.
-pub taken-off-ahead : map (λ es. takenOff es (x ∷ y ∷ []))
-    ((changes one none ∷ []) ∷ (servesFront ∷ changes one none ∷ []) ∷ (changes one none ∷ servesFront ∷ []) ∷ (changes one none ∷ changes one (some x) ∷ [])
-    ∷ (deletes third ∷ changes one (some x) ∷ []) ∷ (changes two none ∷ oneTick ∷ servesFront ∷ []) ∷ [])
+-- the starts of a chain that an event queues, in firing order
+abbrev queuing : Chain → Event → List Event → List Placed
+queuing k e h = order ticksLeftOrDate (keep (inChain k) (keep (isQueued e) (starts h)))
+
+queuing-order : (k : Chain) (e : Event) (h : List Event) → InOrder ticksLeftOrDate (keep (inChain k) (keep (isQueued e) (starts h))) (queuing k e h)
+queuing-order k e h = order-in-order ticksLeftOrDate (keep (inChain k) (keep (isQueued e) (starts h)))
+
+-- The queue is empty. The tick queues x and then d: the interval one first, although it was started later.
+pub queue-empty : IsQueue before []
+queue-empty =
+    queue-calm _ (changes one (some x)) [] refl (queue-calm _ (changes third (some o)) [] refl (queue-calm _ (changes two (some d)) [] refl
+    (queue-calm _ initiates [] refl (queue-moved (laidOutFor 1 ∷ []) (clockSetTo 4) [] refl (λ j. refl) (queue-calm [] (laidOutFor 1) [] refl refl)))))
+
+pub interval-first : IsQueue before [] → IsQueue (oneTick ∷ before) (x ∷ d ∷ [])
+interval-first empty =
+    let queues : Queues before oneTick (x ∷ d ∷ []) = record {
+      ticking = queuing ByTicks oneTick before;
+      dated = queuing ByDate oneTick before;
+      ticking-order = queuing-order ByTicks oneTick before;
+      dated-order = queuing-order ByDate oneTick before;
+      is = refl;
+    } in
+    ([], x ∷ d ∷ [], empty, queues, refl)
+
+-- Then z is started, and is behind them when it is due.
+abbrev next : List Event
+next = changes fourth (some z) ∷ oneTick ∷ before
+
+pub to-the-back : IsQueue next (x ∷ d ∷ []) → IsQueue (oneTick ∷ next) (x ∷ d ∷ z ∷ [])
+to-the-back two-queued =
+    let queues : Queues next oneTick (z ∷ []) = record {
+      ticking = queuing ByTicks oneTick next;
+      dated = queuing ByDate oneTick next;
+      ticking-order = queuing-order ByTicks oneTick next;
+      dated-order = queuing-order ByDate oneTick next;
+      is = refl;
+    } in
+    (x ∷ d ∷ [], z ∷ [], two-queued, queues, refl)
+
+-- How many of x and d are taken off ahead of another: x is cancelled; and d is handed out after it. x is handed out, and cancelled when it is no more
+-- ahead. x is started again, and the new start ended: it counts once. x is started again, and d deleted. Calls of another.
+pub taken-off-ahead : map (λ es. takenOff es (x ∷ d ∷ []))
+    ((changes one none ∷ []) ∷ (servesFront ∷ changes one none ∷ []) ∷ (changes one none ∷ servesFront ∷ [])
+    ∷ (changes one none ∷ changes one (some x) ∷ []) ∷ (deletes two ∷ changes one (some x) ∷ []) ∷ (changes third none ∷ oneTick ∷ servesFront ∷ []) ∷ [])
     ≡ 1 ∷ 1 ∷ 0 ∷ 1 ∷ 2 ∷ 0 ∷ []
 taken-off-ahead = refl
 
 -- What is left of them in the queue after a serve, a cancel of the second, a delete of the first, a tick, and a lay out.
-pub left-in-queue : map (λ e. map (λ (s : Start). s .id) (leftInQueue e (x ∷ y ∷ [])))
-    (servesFront ∷ changes third none ∷ deletes one ∷ oneTick ∷ laidOutFor 10 ∷ [])
-    ≡ (third ∷ []) ∷ (one ∷ []) ∷ (third ∷ []) ∷ (one ∷ third ∷ []) ∷ [] ∷ []
+pub left-in-queue : map (λ e. map (λ (s : Start). s .id) (leftInQueue e (x ∷ d ∷ []))) (servesFront ∷ changes two none ∷ deletes one ∷ oneTick ∷ laidOutFor 10 ∷ [])
+    ≡ (two ∷ []) ∷ (one ∷ []) ∷ (two ∷ []) ∷ (one ∷ two ∷ []) ∷ [] ∷ []
 left-in-queue = refl
