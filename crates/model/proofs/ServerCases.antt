@@ -12,7 +12,7 @@ use Rattle.model.specs.Kinds.{Chain, ByTicks, ByDate, After, ServerAfter
 use Rattle.model.specs.State.{idBase}
 use Rattle.model.specs.Sound.{headerSound, slotSound, chainSound, ticksSound, datesSound, queueSound, sound}
 use Rattle.model.specs.Outcome.{statusOn, outcome}
-use Rattle.model.specs.History.{Start, startOf, Event, laidOutFor, changes, deletes, oneTick, clockSetTo, initiates, servesFront, Placed, starts, fires, isQueued, inChain, ticksLeftOrDate, Queues, leftInQueue, IsQueue, takenOff}
+use Rattle.model.specs.History.{Start, startOf, Event, eventsOn, laidOutFor, changes, deletes, oneTick, clockSetTo, initiates, servesFront, Placed, starts, waits, fires, isQueued, inChain, ticksLeftOrDate, Queues, leftInQueue, IsQueue, takenOff}
 use Rattle.model.proofs.Order.{order, order-in-order}
 use Rattle.model.proofs.QueueLaws.{queue-calm, queue-moved}
 use Rattle.model.proofs.Cases.{Case, calls, computed, lists, date, nine, unlent}
@@ -260,13 +260,27 @@ before = changes one (some x) ∷ changes third (some o) ∷ changes two (some d
 abbrev idsOf : List Placed → List ℕ
 idsOf l = map (λ (g : Placed). g .begun .id) l
 
--- "Fires" reads "is queued" for them: in the next tick o fires, d and x are queued; a set clock to second 5 queues d; and in a second tick nothing is due.
+-- Initiate, the two starts, a reset and a serve as events, the latest first; a reset takes the last start.
+pub events-of : eventsOn []
+    (layOut 4 1 ∷ initiateServer ∷ serverFireAfter one 1 7 70 ∷ serverFireWhen two (date 1988 1 1 0 0 5) 8 80 ∷ tick twelve ∷ reset one ∷ serve three ∷ [])
+    ≡ servesFront ∷ changes one (some x) ∷ oneTick ∷ changes two (some d) ∷ changes one (some x) ∷ initiates ∷ laidOutFor 1 ∷ []
+unfolding monthsOf years valid secondsOf
+events-of = refl
+
+-- "Fires" reads "is queued" for them: in the next tick o fires, d and x are queued; a set clock to second 5 queues d, one to second 4 nothing.
 pub fires-or-queued : map (λ e. idsOf (keep (fires e) (starts before)) ∷ idsOf (keep (isQueued e) (starts before)) ∷ []) (oneTick ∷ clockSetTo 5 ∷ clockSetTo 4 ∷ [])
     ≡ ((third ∷ []) ∷ (two ∷ one ∷ []) ∷ []) ∷ ([] ∷ (two ∷ []) ∷ []) ∷ ([] ∷ [] ∷ []) ∷ []
 fires-or-queued = refl
 
-pub queued-once : idsOf (keep (fires oneTick) (starts (oneTick ∷ before))) ∷ idsOf (keep (isQueued oneTick) (starts (oneTick ∷ before))) ∷ [] ≡ [] ∷ [] ∷ []
+-- They wait until then, by their ticks left or dates, and not after it; nothing is due in a second tick.
+pub queued-once : map (λ h. idsOf (keep waits (starts h)) ∷ map ticksLeftOrDate (keep waits (starts h)) ∷ idsOf (keep (isQueued oneTick) (starts h)) ∷ [])
+    (before ∷ (changes fourth (some z) ∷ oneTick ∷ before) ∷ [])
+    ≡ ((two ∷ third ∷ one ∷ []) ∷ (5 ∷ 1 ∷ 1 ∷ []) ∷ (two ∷ one ∷ []) ∷ []) ∷ ((fourth ∷ []) ∷ (1 ∷ []) ∷ (fourth ∷ []) ∷ []) ∷ []
 queued-once = refl
+
+-- Started again for 3 ticks it has 2 left after one.
+pub ticks-left : map ticksLeftOrDate (keep waits (starts (oneTick ∷ changes one (some (startOf one ServerAfter 3 7 70)) ∷ before))) ≡ 2 ∷ []
+ticks-left = refl
 
 -- the starts of a chain that an event queues, in firing order
 abbrev queuing : Chain → Event → List Event → List Placed
