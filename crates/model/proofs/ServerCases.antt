@@ -1,6 +1,7 @@
 -- Document 02, item 5, the deferred server: cases for each of its sentences, computed from the definitions as the starred ones are. Assumes nothing.
 use mathlib.Core.Path.{_≡_, refl}
 use Prim.Native.Nat.{ℕ, _+_, _*_}
+use mathlib.Core.Bool.{true, false}
 use mathlib.Core.Option.{none, some}
 use mathlib.Core.List.{List, [], _∷_, _++_, map}
 use lib.ListN.{replicate}
@@ -12,7 +13,7 @@ use Rattle.model.specs.Kinds.{Chain, ByTicks, ByDate, After, ServerAfter
 use Rattle.model.specs.State.{idBase}
 use Rattle.model.specs.Sound.{headerSound, slotSound, chainSound, ticksSound, datesSound, queueSound, sound}
 use Rattle.model.specs.Outcome.{statusOn, outcome}
-use Rattle.model.specs.History.{Start, startOf, Event, eventsOn, laidOutFor, changes, deletes, oneTick, clockSetTo, initiates, servesFront, Placed, starts, waits, fires, isQueued, inChain, ticksLeftOrDate, Queues, leftInQueue, IsQueue, takenOff}
+use Rattle.model.specs.History.{Start, startOf, Event, eventsOn, laidOutFor, changes, deletes, oneTick, clockSetTo, initiates, servesFront, Placed, starts, waits, fires, isQueued, inChain, ticksLeftOrDate, Queues, leftInQueue, IsQueue, isInitiated, serves, takenOff}
 use Rattle.model.proofs.Order.{order, order-in-order}
 use Rattle.model.proofs.QueueLaws.{queue-calm, queue-moved}
 use Rattle.model.proofs.Cases.{Case, calls, computed, lists, date, nine, unlent}
@@ -260,12 +261,21 @@ before = changes one (some x) ∷ changes third (some o) ∷ changes two (some d
 abbrev idsOf : List Placed → List ℕ
 idsOf l = map (λ (g : Placed). g .begun .id) l
 
--- Initiate, the two starts, a reset and a serve as events, the latest first; a reset takes the last start.
+-- The calls as events, the latest first. A reset takes the last start, also over an initiate or a serve.
 pub events-of : eventsOn []
-    (layOut 4 1 ∷ initiateServer ∷ serverFireAfter one 1 7 70 ∷ serverFireWhen two (date 1988 1 1 0 0 5) 8 80 ∷ tick twelve ∷ reset one ∷ serve three ∷ [])
-    ≡ servesFront ∷ changes one (some x) ∷ oneTick ∷ changes two (some d) ∷ changes one (some x) ∷ initiates ∷ laidOutFor 1 ∷ []
+    (layOut 4 1 ∷ fireAfter third 1 9 90 ∷ initiateServer ∷ reset third ∷ serverFireWhen two (date 1988 1 1 0 0 5) 8 80 ∷ serverFireAfter one 1 7 70
+    ∷ tick twelve ∷ serve three ∷ reset one ∷ [])
+    ≡ changes one (some x) ∷ servesFront ∷ oneTick ∷ changes one (some x) ∷ changes two (some d) ∷ changes third (some o) ∷ initiates ∷ changes third (some o)
+    ∷ laidOutFor 1 ∷ []
 unfolding monthsOf years valid secondsOf
 events-of = refl
+
+-- Initiated since the lay out; and how many serves.
+pub since-lay-out : map isInitiated (before ∷ (servesFront ∷ oneTick ∷ before) ∷ (laidOutFor 1 ∷ before) ∷ []) ≡ true ∷ true ∷ false ∷ []
+since-lay-out = refl
+
+pub serves-counted : map serves ((servesFront ∷ oneTick ∷ servesFront ∷ []) ∷ before ∷ []) ≡ 2 ∷ 0 ∷ []
+serves-counted = refl
 
 -- "Fires" reads "is queued" for them: in the next tick o fires, d and x are queued; a set clock to second 5 queues d, one to second 4 nothing.
 pub fires-or-queued : map (λ e. idsOf (keep (fires e) (starts before)) ∷ idsOf (keep (isQueued e) (starts before)) ∷ []) (oneTick ∷ clockSetTo 5 ∷ clockSetTo 4 ∷ [])
@@ -329,7 +339,9 @@ pub taken-off-ahead : map (λ es. takenOff es (x ∷ d ∷ []))
     ≡ 1 ∷ 1 ∷ 0 ∷ 1 ∷ 2 ∷ 0 ∷ []
 taken-off-ahead = refl
 
--- What is left of them in the queue after a serve, a cancel of the second, a delete of the first, a tick, and a lay out.
-pub left-in-queue : map (λ e. map (λ (s : Start). s .id) (leftInQueue e (x ∷ d ∷ []))) (servesFront ∷ changes two none ∷ deletes one ∷ oneTick ∷ laidOutFor 10 ∷ [])
-    ≡ (two ∷ []) ∷ (one ∷ []) ∷ (two ∷ []) ∷ (one ∷ two ∷ []) ∷ [] ∷ []
+-- What is left of them in the queue after a serve, a cancel of the second, a delete of the first, and a lay out; after a tick, an initiate, and a start
+-- of another.
+pub left-in-queue : map (λ e. map (λ (s : Start). s .id) (leftInQueue e (x ∷ d ∷ [])))
+    (servesFront ∷ changes two none ∷ deletes one ∷ laidOutFor 10 ∷ oneTick ∷ initiates ∷ changes fourth (some z) ∷ [])
+    ≡ (two ∷ []) ∷ (one ∷ []) ∷ (two ∷ []) ∷ [] ∷ (one ∷ two ∷ []) ∷ (one ∷ two ∷ []) ∷ (one ∷ two ∷ []) ∷ []
 left-in-queue = refl
