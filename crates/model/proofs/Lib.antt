@@ -36,3 +36,5 @@ pub mod Readings
 pub mod CallReadings
 pub mod Cases
 pub mod WorkedCases
+pub mod ServerCases
+pub mod EveryKind
