@@ -7,7 +7,7 @@ ghost use Prim.Native.Nat.{_+_, _*_, _<_, _≤_};
 ghost use lib.ListN.{length, set};
 ghost use Rattle.model.specs.Words.{word, headWord, waitOf};
 ghost use Rattle.model.proofs.StateWords.{linkWord};
-ghost use Rattle.chains.specs.EditedWords.{followerPut, linksPut, waitWithout, waitBehind, extractedWords, insertedWords, Extractable, Insertable};
+ghost use Rattle.chains.specs.EditedWords.{followerPut, linksPut, waitWithout, waitBehind, previousPut, extractedWords, insertedWords, Extractable, FirstExtractable, Insertable};
 use model::Chain;
 use table::FIRST_DATED;
 use table::FIRST_QUEUED;
@@ -119,6 +119,28 @@ pub fn extract(t: &mut [u32], chain: Chain, i: u32)
     let v = wait_without(t, chain, n, w);
     put_next(t, chain, p, n);
     put_follower(t, n, p, v);
+    put_links(t, i, 0, 0, 0);
+}
+
+// Slot n, if there is one, gets previous q.
+fn put_previous(t: &mut [u32], n: u32, q: u32)
+    requires { ⌜ 8 * n + 10 ≤ length (now t) ⌝ }
+    ensures { λ _. ⌜ now (t .exit) ≡ previousPut (now (t .entry)) n q ⌝ }
+{
+    if n == 0 {
+        return;
+    }
+    put(t, n, PREVIOUS, q);
+}
+
+// Slot i, the first of its chain, leaves it. In the interval chain it has no ticks left, so that its follower's wait stays.
+pub fn extract_first(t: &mut [u32], chain: Chain, i: u32)
+    requires { ⌜ FirstExtractable chain (now t) i ⌝ }
+    ensures { λ _. ⌜ now (t .exit) ≡ extractedWords chain (now (t .entry)) i ⌝ }
+{
+    let n = get(t, i, NEXT);
+    put_next(t, chain, 0, n);
+    put_previous(t, n, 0);
     put_links(t, i, 0, 0, 0);
 }
 

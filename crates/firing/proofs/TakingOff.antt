@@ -127,6 +127,8 @@ module _ {k : Chain} {t l : List ℕ} {limit n end i : ℕ} (r : Room k t l limi
       in-table = in-table;
       is = refl;
       waits = waits-here;
+      first = a .previous;
+      due = λ ticking. omega (arith, a .wait, low, r .none-left ticking);
       fits = omega (arith, r .fits, ap length due-is);
       few = omega (arith, r .few, ap length due-is);
     };
@@ -233,6 +235,7 @@ module _ {k : Chain} {t l : List ℕ} {limit n end i : ℕ} (r : Room k t l limi
         let count = ap (λ (c : Tally). c .count) (q .2) in
         record {
           holds = next-holds (next off-is);
+          none-left = r .none-left;
           waits = r .waits;
           last = last-next;
           fits = omega (arith, r .fits, ap length (due-next off-is), count, ap length (q .1));
@@ -244,6 +247,7 @@ module _ {k : Chain} {t l : List ℕ} {limit n end i : ℕ} (r : Room k t l limi
         let same = ap length (q .0 .entry) ∙ length-sets l (3 * n) ((idBase + i) ∷ routineOf t i ∷ dataOf t i ∷ []) in
         record {
           holds = next-holds (next off-is);
+          none-left = r .none-left;
           waits = r .waits;
           last = last-next;
           fits = omega (arith, r .fits, ap length (due-next off-is), count, same);
@@ -359,6 +363,8 @@ module _ {k : Chain} {t l : List ℕ} {i n end : ℕ} (h : Turns k t l i n end) 
       waits = ap (waitsIn k) is ∙ h .comes .waits;
       low = ten;
       high = omega (arith, is, not-above k (h .waits) (kindOf t i) (h .comes .waits));
+      first = h .comes .first;
+      due = h .comes .due;
       last = h .last;
     }
 
@@ -372,6 +378,8 @@ module _ {k : Chain} {t l : List ℕ} {i n end : ℕ} (h : Turns k t l i n end) 
       in-table = h .comes .in-table;
       is = is;
       waits = ap (waitsIn k) is ∙ h .comes .waits;
+      first = h .comes .first;
+      due = h .comes .due;
       fits = h .comes .fits;
       few = h .comes .few;
     }

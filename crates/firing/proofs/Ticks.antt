@@ -16,7 +16,7 @@ use Rattle.model.specs.Directives.{due, fire, withoutServer, nearer, clockAt, c
 use Rattle.model.specs.Words.{read, writtenOver, slotCount, seconds, ticksInto}
 use Rattle.model.specs.Sound.{sound}
 use Rattle.model.specs.Outcome.{entryWords, written}
-use Rattle.model.proofs.ListLaws.{all, keep-on, keep-append, length-keep}
+use Rattle.model.proofs.ListLaws.{clash, all, keep-on, keep-append, length-keep}
 use Rattle.model.proofs.WellFormed.{Chained, Holds}
 use Rattle.model.proofs.Chains.{fits, fit-both}
 use Rattle.model.proofs.ReadBack.{slots-length}
@@ -69,13 +69,14 @@ module _ (t list : List ℕ) (ok : sound t ≡ true) (long : 3 * slotCount t ≤
   chained = sound-holds t ok .chained
 
   -- whatever is due of one chain has room behind n entries, where that chain and they are no more than the slots
-  room-for : {s : State} {u : List ℕ} → Next t s u → (k : Chain) → sameChain Queue k ≡ false → (limit n : ℕ) {last : ℕ} → last ≡ lastSlot 0 (s .queue)
+  room-for : {s : State} {u : List ℕ} → Next t s u → (k : Chain) → sameChain Queue k ≡ false → (limit n : ℕ) → (k ≡ ByTicks → limit ≡ 0) → {last : ℕ} → last ≡ lastSlot 0 (s .queue)
       → (l : List ℕ) → length l ≡ length list → n + length (chainOf k s) ≤ length (read t .slots) → Room k u l limit n last
-  room-for {s} {u} x k apart limit n at l e p =
+  room-for {s} {u} x k apart limit n none at l e p =
       let same = ap (λ (z : State). length (due k limit z)) (next-read x) in
       let some = length-keep (λ w. leb (w .wait) limit) (chainOf k s) in
       record {
         holds = next-holds x;
+        none-left = none;
         waits = apart;
         last = at ∙ ap (λ (z : State). lastSlot 0 (z .queue)) (sym (next-read x));
         fits = omega (arith, same, some, slots-length t, long);
@@ -97,8 +98,8 @@ module _ (t list : List ℕ) (ok : sound t ≡ true) (long : 3 * slotCount t ≤
     few-both : length (nearer (read t) .ticking) + length (read t .dated) ≤ length (read t .slots)
     few-both = fit-both (nearer (read t)) (chained-nearer (read t) chained)
 
-    pub nearer-room : (limit : ℕ) → Room ByTicks u₁ list limit 0 end
-    nearer-room limit = room-for after-nearer ByTicks refl limit 0 ends list refl (omega (arith, few-both))
+    pub nearer-room : (limit : ℕ) → limit ≡ 0 → Room ByTicks u₁ list limit 0 end
+    nearer-room limit none = room-for after-nearer ByTicks refl limit 0 (λ _. none) ends list refl (omega (arith, few-both))
 
     module _ {limit n last : ℕ} {u₂ list₂ : List ℕ} (f₁ : Fires ByTicks u₁ list limit 0 n last u₂ list₂) where
       after-first : Next t (fire ByTicks limit (nearer (read t))) u₂
@@ -151,8 +152,8 @@ module _ (t list : List ℕ) (ok : sound t ≡ true) (long : 3 * slotCount t ≤
 
         pub clock-room : (second : ℕ) → Room ByDate u₃ list₂ second n last
         clock-room second =
-            room-for after-clock ByDate refl second n (f₁ .last ∙ ap (λ (z : State). lastSlot 0 (z .queue)) (next-read after-first))
-            list₂ (fires-list-length (nearer-room limit) f₁)
+            room-for after-clock ByDate refl second n (λ e. clash (sym (ap (sameChain ByTicks) e))) (f₁ .last ∙ ap (λ (z : State). lastSlot 0 (z .queue)) (next-read after-first))
+            list₂ (fires-list-length f₁)
             (omega (arith, first-few, few-both, ap length later-dated))
 
         pub second-is : seconds u₃ ≡ clockStep (read t .clock) .second
@@ -199,8 +200,8 @@ module _ (t list : List ℕ) (ok : sound t ≡ true) (long : 3 * slotCount t ≤
     few-one : (k : Chain) → length (chainOf k (withClock (read t) (clockAt (read t .clock) second 0))) ≤ length (read t .slots)
     few-one = fits (withClock (read t) (clockAt (read t .clock) second 0)) (after-set .holds .chained)
 
-    pub moved-room : (k : Chain) → sameChain Queue k ≡ false → (limit : ℕ) → Room k u₁ list limit 0 end
-    moved-room k apart limit = room-for after-set k apart limit 0 ends list refl (omega (arith, few-one k))
+    pub moved-room : (k : Chain) → sameChain Queue k ≡ false → (limit : ℕ) → (k ≡ ByTicks → limit ≡ 0) → Room k u₁ list limit 0 end
+    moved-room k apart limit none = room-for after-set k apart limit 0 none ends list refl (omega (arith, few-one k))
 
     pub moved-is : {k : Chain} {limit m last : ℕ} {u₂ list₂ : List ℕ} → Fires k u₁ list limit 0 m last u₂ list₂
         → Leaves t list (movedTo k limit (read t) second) m u₂ list₂

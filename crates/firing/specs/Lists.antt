@@ -7,12 +7,12 @@ use lib.ListN.{length}
 use lib.Dec.{eqb}
 use lib.Seq.{sets}
 use Rattle.model.specs.declared.Chain.{Chain}
-use Rattle.model.specs.declared.Chain.the-variants.{Queue}
+use Rattle.model.specs.declared.Chain.the-variants.{ByTicks, Queue}
 use Rattle.model.specs.Lists.{any}
 use Rattle.model.specs.Kinds.{kindAt, sameChain, waitsIn, forServer}
 use Rattle.model.specs.State.{Slot, Link, State, slotAt, idBase, listed}
 use Rattle.model.specs.Directives.{stopped, idled, due, fire, withoutServer}
-use Rattle.model.specs.Words.{read, writtenOver, kindOf, routineOf, dataOf}
+use Rattle.model.specs.Words.{read, writtenOver, kindOf, waitOf, routineOf, dataOf, previousOf}
 use Rattle.model.specs.Outcome.{entryWords}
 use Rattle.model.proofs.KindLaws.{periodic}
 use Rattle.model.proofs.WellFormed.{Holds}
@@ -23,19 +23,23 @@ use Rattle.going_on.specs.Queueing.{queued}
 abbrev pub EndsAt : List ℕ → ℕ → Type 0
 EndsAt t end = end ≡ lastSlot 0 (read t .queue)
 
--- the chains are in order, chain k is not the queue, and the list has room for those due, written from entry `from` on
+-- the chains are in order, chain k is not the queue, and the list has room for those due, written from entry `from` on; of those that wait for ticks
+-- they are due with none left
 pub record Room (k : Chain) (t list : List ℕ) (limit from end : ℕ) : Type 0 where
   pub holds : Holds t (read t)
+  pub none-left : k ≡ ByTicks → limit ≡ 0
   pub waits : sameChain Queue k ≡ false
   pub last : EndsAt t end
   pub fits : 3 * (from + length (due k limit (read t))) ≤ length list
   pub few : from + length (due k limit (read t)) < 256
 
--- slot i, of that kind, waits in chain k, and the list has room for entry n
+-- slot i, of that kind, is the first of chain k and due, and the list has room for entry n
 pub record ComesOff (k : Chain) (t list : List ℕ) (i kind n : ℕ) : Type 0 where
   pub in-table : InTable t i
   pub is : kind ≡ kindOf t i
   pub waits : waitsIn k kind ≡ true
+  pub first : previousOf t i ≡ 0
+  pub due : k ≡ ByTicks → waitOf t i ≡ 0
   pub fits : 3 * n + 3 ≤ length list
   pub few : n < 256
 

@@ -17,7 +17,7 @@ use chains::follower;
 use going_on::ENTRY;
 use going_on::put_back;
 use going_on::queue;
-use links::stop_in;
+use links::stop_first;
 use links::stopped_kind;
 use model::Chain;
 use slots::ID_BASE;
@@ -46,7 +46,7 @@ fn put_entry(list: &mut [u32], n: u32, id: u32, routine: u32, user_data: u32)
     list[at + 2] = user_data;
 }
 
-// Slot i, of that kind, comes off the chain and is listed as entry n.
+// Slot i, of that kind, the first of the chain and due, comes off and is listed as entry n.
 pub fn come_off(t: &mut [u32], list: &mut [u32], chain: Chain, i: u32, kind: u32, n: u32)
     requires { ⌜ ComesOff chain (now t) (now list) i kind n ⌝ }
     ensures { λ _. ⌜ CameOff (now (t .entry)) (now (list .entry)) i n (now (t .exit)) (now (list .exit)) ⌝ }
@@ -54,7 +54,7 @@ pub fn come_off(t: &mut [u32], list: &mut [u32], chain: Chain, i: u32, kind: u32
     let routine = get(t, i, ROUTINE);
     let user_data = get(t, i, DATA);
     put_entry(list, n, ID_BASE + i, routine, user_data);
-    stop_in(t, chain, i, stopped_kind(kind));
+    stop_first(t, chain, i, stopped_kind(kind));
 }
 
 // How many entries there are, whether the timer of one is periodic, and the last slot of the queue, 0 where that is empty.

@@ -22,7 +22,7 @@ use Rattle.model.proofs.Chains.{without-none}
 use Rattle.model.proofs.ReadBack.{slot-read, over-over}
 use Rattle.model.proofs.Steps.{stopped-chain, chained-inserted, length-inserted}
 use Rattle.chains.specs.EditedWords.{fieldWord, insertedWords, Insertable}
-use Rattle.links.specs.Places.{lastSlot, upTo, At, Stops}
+use Rattle.links.specs.Places.{lastSlot, upTo, At, FirstStops}
 use Rattle.links.proofs.Extracting.{in-slots, times-kind}
 use Rattle.links.proofs.Inserting.{insertable, kind-words}
 use Rattle.links.proofs.NextState.{next-read}
@@ -80,11 +80,15 @@ module _ {k : Chain} (t : List ℕ) {i kind end : ℕ} (h : Queues k t i kind en
   kind-here : slotAt (read t .slots) i .kind ≡ kind
   kind-here = ap (λ (x : Slot). x .kind) (slot-read t i (h .in-table .low) (h .in-table .high)) ∙ sym (h .is)
 
-  pub queue-stops : Stops t k i (kind - 2)
+  pub queue-stops : FirstStops t k i (kind - 2)
   queue-stops = record {
-    in-table = h .in-table;
-    waits = ap (waitsIn k) (sym (h .is)) ∙ h .waits;
-    kind = kinds .idle ∙ ap (λ (n : ℕ). kindAt n .whenStopped) (h .is);
+    stops = record {
+      in-table = h .in-table;
+      waits = ap (waitsIn k) (sym (h .is)) ∙ h .waits;
+      kind = kinds .idle ∙ ap (λ (n : ℕ). kindAt n .whenStopped) (h .is);
+    };
+    first = h .first;
+    due = h .due;
   }
 
   same-queue : chainOf Queue (stoppedAt t i) ≡ read t .queue

@@ -10,7 +10,7 @@ ghost use Rattle.going_on.specs.GoingBack.{waitsAgain, Again, backAll, s
 ghost use Rattle.going_on.specs.Queueing.{queued, Queues};
 use chains::insert;
 use links::place_from;
-use links::stop_in;
+use links::stop_first;
 use model::Chain;
 use slots::ID_BASE;
 use table::IDLE_EVERY;
@@ -111,12 +111,12 @@ pub fn queue_end(t: &[u32]) -> u32
     place.before
 }
 
-// A server timer of that kind, which waits in the chain, goes to the back of the queue, whose last slot is `end`, 0 where the queue is empty.
+// A server timer of that kind, the first of the chain and due, goes to the back of the queue, whose last slot is `end`, 0 where the queue is empty.
 pub fn queue(t: &mut [u32], chain: Chain, i: u32, kind: u32, end: u32)
     requires { ⌜ Queues chain (now t) i kind end ⌝ }
     ensures { λ _. ⌜ now (t .exit) ≡ writtenOver (queued (read (now (t .entry))) i) (now (t .entry)) ⌝ }
 {
-    stop_in(t, chain, i, kind - TO_IDLE);
+    stop_first(t, chain, i, kind - TO_IDLE);
     insert(t, Chain::Queue, end, i, 0);
     put(t, i, KIND, kind + TO_QUEUED);
 }

@@ -9,9 +9,10 @@ ghost use Rattle.model.specs.State.{chainOf, slotAt, waitAt};
 ghost use Rattle.model.specs.Directives.{stored, stopped, idled, started};
 ghost use Rattle.model.specs.Words.{difference, accumulated, read, writtenOver, waitOf};
 ghost use Rattle.model.proofs.WellFormed.{Holds, timesIn};
-ghost use Rattle.links.specs.Places.{At, InTable, Stops, IdleInTable, From};
+ghost use Rattle.links.specs.Places.{At, InTable, Stops, FirstStops, IdleInTable, From};
 ghost use Rattle.links.specs.TimerWords.{timerPut};
 use chains::extract;
+use chains::extract_first;
 use chains::follower;
 use chains::insert;
 use model::Chain;
@@ -122,11 +123,20 @@ fn chain_in(kind: u32) -> Chain
 }
 
 // A timer that waits in the chain stops, as that kind.
-pub fn stop_in(t: &mut [u32], chain: Chain, i: u32, idle: u32)
+fn stop_in(t: &mut [u32], chain: Chain, i: u32, idle: u32)
     requires { ⌜ Stops (now t) chain i idle ⌝ }
     ensures { λ _. ⌜ now (t .exit) ≡ writtenOver (stopped (read (now (t .entry))) i (idled (slotAt (read (now (t .entry)) .slots) i))) (now (t .entry)) ⌝ }
 {
     extract(t, chain, i);
+    put(t, i, KIND, idle);
+}
+
+// The first timer of the chain stops, as that kind; in the interval chain it is due.
+pub fn stop_first(t: &mut [u32], chain: Chain, i: u32, idle: u32)
+    requires { ⌜ FirstStops (now t) chain i idle ⌝ }
+    ensures { λ _. ⌜ now (t .exit) ≡ writtenOver (stopped (read (now (t .entry))) i (idled (slotAt (read (now (t .entry)) .slots) i))) (now (t .entry)) ⌝ }
+{
+    extract_first(t, chain, i);
     put(t, i, KIND, idle);
 }
 
