@@ -1,23 +1,12 @@
 // The soundness check of a table whose server is initiated: the pass over the slots, with a walk along each of the three chains.
 ghost use mathlib.Core.Path.{_≡_};
 ghost use mathlib.Core.Bool.{true};
-ghost use Rattle.model.specs.declared.Chain.the-variants.{ByDate};
-ghost use Rattle.model.specs.Kinds.{waitsIn};
 ghost use Rattle.model.specs.Words.{serverInitiated};
 ghost use Rattle.model.specs.Sound.{headerSound, sound};
 use server_word_checks::slot_tested;
+use server_word_checks::waits_for_date;
 use table::*;
 use walks::*;
-
-// A timer of this kind waits in the dated chain.
-fn waits_for_date(kind: u32) -> bool
-    ensures { λ r. ⌜ r ≡ waitsIn ByDate kind ⌝ }
-{
-    if kind == WAITING_DATE {
-        return true;
-    }
-    kind == SERVER_WAITING_DATE
-}
 
 // Whether the table is sound, where its header is and the server is initiated. One pass over the slots; each that stands in a chain goes one step
 // along it. The slice is reborrowed where it is passed on, so that the compiler keeps it in registers.

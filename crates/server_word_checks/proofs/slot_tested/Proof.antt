@@ -1,22 +1,48 @@
 -- `server_word_checks::slot_tested` meets its contract: at each kind the tests that the definition has left are those that the code makes.
 -- Assumes nothing.
-use mathlib.Core.Path.{_∙_}
-use mathlib.Core.Bool.{true}
+use mathlib.Core.Path.{_≡_, sym, ap, _∙_}
+use mathlib.Core.Bool.{true, false}
+use Prim.Native.Nat.{ℕ}
 use native.Mathlib.Omega.{arith}
-use Rattle.word_checks.proofs.SlotTests.{kind-fails, name-fails, routine-fails}
-use Rattle.server_word_checks.proofs.ServerSlots.{plain-kinds, server-ticks, server-date, queued-ticks, queued-date, server-idle}
+use Rattle.model.specs.declared.Chain.the-variants.{ByTicks, ByDate}
+use Rattle.model.specs.Kinds.{waitsIn}
+use Rattle.model.specs.Words.{kindOf}
+use Rattle.word_checks.proofs.SlotTests.{new-slot, name-fails, routine-fails, idle-low}
+use Rattle.server_word_checks.proofs.ServerSlots.{no-kind, ticking-slot, dated-slot, queued-ticks, queued-date, idle-high}
 use borrow.Author.Needs.{needs}
 use Rattle.server_word_checks.proofs.slot_tested.Statement.{statement}
 use Rattle.server_word_checks.proofs.slot_tested.Tie as tie
 
+-- ---- what was said of the slot's kind
+
+abbrev kind : tie.After-get → ℕ
+kind c = kindOf (c .before .before .args .t .now) (c .before .before .args .i)
+
+abbrev read : tie.After-waits-for-ticks → tie.After-get
+read c = c .before .before .before .before .before .before
+
+asked : (c : tie.After-waits-for-ticks) → c .waits-for-ticks .result ≡ waitsIn ByTicks (kind (read c))
+asked c = c .waits-for-ticks .ensures ∙ ap (waitsIn ByTicks) (read c .get .ensures)
+
+asked-date : (c : tie.After-waits-for-date) → c .waits-for-date .result ≡ waitsIn ByDate (kind (read (c .before .before)))
+asked-date c = c .waits-for-date .ensures ∙ ap (waitsIn ByDate) (read (c .before .before) .get .ensures)
+
+not-ticking : (c : tie.Else4) → waitsIn ByTicks (kind (read (c .before))) ≡ false
+not-ticking c = sym (asked (c .before)) ∙ c .if4 .left
+
+not-dated : (c : tie.Else5) → waitsIn ByDate (kind (read (c .before .before .before))) ≡ false
+not-dated c = sym (asked-date (c .before)) ∙ c .if5 .left
+
+-- ---- the needs
+
 get-requires : tie.Need-get-requires
 get-requires c κs = search needs
 
-slot-tested-requires : tie.Need-slot-tested-requires
-slot-tested-requires c κs = search needs
+new-tested-requires : tie.Need-new-tested-requires
+new-tested-requires c κs = search needs
 
 returns : tie.Need-returns
-returns c = c .slot-tested .ensures ∙ plain-kinds _ _ (omega arith)
+returns c = c .new-tested .ensures ∙ new-slot true _ _ (c .before .before .get .ensures) (omega arith)
 
 get-requires-2 : tie.Need-get-requires-2
 get-requires-2 c κs = search needs
@@ -30,14 +56,20 @@ get-requires-3 c κs = search needs
 returns-3 : tie.Need-returns-3
 returns-3 c = routine-fails true _ _ (omega arith) (omega arith)
 
+waits-for-ticks-requires : tie.Need-waits-for-ticks-requires
+waits-for-ticks-requires c κs = search needs
+
 returns-4 : tie.Need-returns-4
-returns-4 c = server-ticks _ _ (omega arith) (omega arith) (omega arith)
+returns-4 c = ticking-slot _ _ (omega arith) (omega arith) (sym (asked (c .before)) ∙ c .if4 .taken)
+
+waits-for-date-requires : tie.Need-waits-for-date-requires
+waits-for-date-requires c κs = search needs
 
 get-requires-4 : tie.Need-get-requires-4
 get-requires-4 c κs = search needs
 
 returns-5 : tie.Need-returns-5
-returns-5 c = rw (c .get4 .ensures) (server-date _ _ (omega arith) (omega arith) (omega arith))
+returns-5 c = rw (c .get4 .ensures) (dated-slot _ _ (omega arith) (omega arith) (sym (asked-date (c .before .before)) ∙ c .before .if5 .taken))
 
 get-requires-5 : tie.Need-get-requires-5
 get-requires-5 c κs = search needs
@@ -55,23 +87,40 @@ idle-tested-requires : tie.Need-idle-tested-requires
 idle-tested-requires c κs = search needs
 
 returns-8 : tie.Need-returns-8
-returns-8 c = c .idle-tested .ensures ∙ server-idle _ _ (omega arith) (omega arith) (c .before .before .before .before .before .before .before .before .before .before .before .get .ensures) (omega arith) (omega arith)
+returns-8 c =
+    let d = c .before .before .before .before in
+    c .idle-tested .ensures
+    ∙ idle-low true _ _ (read (d .before .before .before) .get .ensures) (omega arith) (omega arith) (omega arith) (omega arith)
+
+idle-tested-requires-2 : tie.Need-idle-tested-requires-2
+idle-tested-requires-2 c κs = search needs
 
 returns-9 : tie.Need-returns-9
-returns-9 c = kind-fails true _ _ (omega arith)
+returns-9 c =
+    let d = c .before .before .before .before .before in
+    c .idle-tested2 .ensures
+    ∙ idle-high _ _ (omega arith) (omega arith) (read (d .before .before .before) .get .ensures) (omega arith) (omega arith)
+    (not-ticking (d .before .before)) (not-dated d)
+
+returns-10 : tie.Need-returns-10
+returns-10 c =
+    let d = c .before .before .before .before in
+    no-kind _ _ (omega arith) (not-ticking (d .before .before)) (not-dated d) (λ e. omega arith) (λ e. omega arith)
 
 pub slot-tested-spec : {M : Type 1} → statement M
 slot-tested-spec =
     tie.close
     (tie.spec
     get-requires
-    slot-tested-requires
+    new-tested-requires
     returns
     get-requires-2
     returns-2
     get-requires-3
     returns-3
+    waits-for-ticks-requires
     returns-4
+    waits-for-date-requires
     get-requires-4
     returns-5
     get-requires-5
@@ -80,4 +129,6 @@ slot-tested-spec =
     returns-7
     idle-tested-requires
     returns-8
-    returns-9)
+    idle-tested-requires-2
+    returns-9
+    returns-10)
