@@ -2,7 +2,7 @@
 -- what the walks need of the slot, and the slot is sound if besides its interval is 1 or more where it waits for ticks. Assumes nothing.
 use Prim.Native.Nat.{ℕ, _≤_, _<_}
 use mathlib.Core.Path.{_≡_, refl, sym, ap, _∙_}
-use mathlib.Core.Bool.{Bool, true, false, cond, _&&_, _||_, and-true, and-false, and-comm}
+use mathlib.Core.Bool.{Bool, true, false, cond, _&&_, _||_, and-true, and-false}
 use mathlib.Core.List.{List, [], _∷_}
 use native.Mathlib.Omega.{arith}
 use lib.ListN.{getD}
@@ -57,11 +57,12 @@ module _ (server : Bool) (t : List ℕ) (i : ℕ) where
       let one : k ≡ 1 = omega (arith, eqb-false k 0 e) in
       rw e (sym (as-kind 1 (sym f ∙ one) ∙ turned (ltb 0 (nameOf t i)))))
     where
-      ordered : (a p q r : Bool) → (p ≡ true → q ≡ true) → (a && (p && (q && (r && true)))) ≡ ((p && r) && a)
-      ordered a false q r h = and-false a
-      ordered a true q r h = rw (h refl, and-true r) (and-comm a r)
+      ordered : (a p q r : Bool) → (p ≡ true → q ≡ true) → (a && (p && (q && (r && true)))) ≡ (a && (p && r))
+      ordered false p q r h = refl
+      ordered true false q r h = refl
+      ordered true true q r h = rw (h refl) (and-true r)
 
-      turned : (a : Bool) → (a && (unstarted t i && (eqb (intervalOf t i) 0 && (unlinked t i && true)))) ≡ ((unstarted t i && unlinked t i) && a)
+      turned : (a : Bool) → (a && (unstarted t i && (eqb (intervalOf t i) 0 && (unlinked t i && true)))) ≡ (a && (unstarted t i && unlinked t i))
       turned a =
           ordered a (unstarted t i) (eqb (intervalOf t i) 0) (unlinked t i)
           (λ z. all-at (eqb (intervalOf t i) 0 ∷ eqb (routineOf t i) 0 ∷ eqb (dataOf t i) 0 ∷ []) z 0)

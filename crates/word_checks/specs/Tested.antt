@@ -16,7 +16,7 @@ allZero a b c = allOf (eqb a 0 ∷ eqb b 0 ∷ eqb c 0 ∷ [])
 
 -- a slot that is free or was never started: its name is zero just where it is free
 abbrev pub newTested : List ℕ → ℕ → ℕ → Bool
-newTested t i kind = (unstarted t i && unlinked t i) && cond (eqb kind 0) (eqb (nameOf t i) 0) (ltb 0 (nameOf t i))
+newTested t i kind = cond (eqb kind 0) (eqb (nameOf t i) 0) (ltb 0 (nameOf t i)) && (unstarted t i && unlinked t i)
 
 -- an idle slot: its interval is zero after a start by date, 1 or more after one by interval
 abbrev pub idleTested : List ℕ → ℕ → Bool → Bool

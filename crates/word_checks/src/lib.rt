@@ -68,7 +68,7 @@ pub fn header_sound(t: &[u32]) -> bool
 }
 
 // Wait, next and previous of slot i are zero.
-fn is_unlinked(t: &[u32], i: u32) -> bool
+pub fn is_unlinked(t: &[u32], i: u32) -> bool
     requires { ⌜ 8 * i + 10 ≤ length (now t) ⌝ }
     ensures { λ r. ⌜ r ≡ unlinked (now (t .entry)) i ⌝ }
 {
@@ -96,17 +96,20 @@ pub fn new_tested(t: &[u32], i: u32, kind: u32) -> bool
     ensures { λ r. ⌜ r ≡ newTested (now (t .entry)) i kind ⌝ }
 {
     let name = get(t, i, NAME);
-    if !is_blank(t, i) {
+    if kind == FREE {
+        if 0 < name {
+            return false;
+        }
+        return is_blank(t, i);
+    }
+    if name < 1 {
         return false;
     }
-    if kind == FREE {
-        return name == 0;
-    }
-    0 < name
+    is_blank(t, i)
 }
 
-// Slot i is idle: wait and links are zero, and the interval is zero after a start by date, 1 or more after one by interval.
-pub fn idle_tested(t: &[u32], i: u32, dated: bool) -> bool
+// Slot i is idle, of a kind up to 7: wait and links are zero, and the interval is zero after a start by date, 1 or more after one by interval.
+fn idle_tested(t: &[u32], i: u32, dated: bool) -> bool
     requires { ⌜ 8 * i + 10 ≤ length (now t) ⌝ }
     ensures { λ r. ⌜ r ≡ idleTested (now (t .entry)) i dated ⌝ }
 {
