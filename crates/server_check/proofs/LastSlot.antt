@@ -9,6 +9,7 @@ use Rattle.model.specs.declared.Chain.the-variants.{Queue}
 use Rattle.model.specs.State.{Link}
 use Rattle.model.specs.Words.{linksFrom, slotCount, firstQueued, waitOf, nextOf}
 use Rattle.model.specs.Sound.{sound}
+use Rattle.model.proofs.ListLaws.{cases}
 use Rattle.walks.specs.Walks.{Stand}
 use Rattle.walks.proofs.NoSlotTwice.{links-first, links-zero}
 use Rattle.walks.proofs.OnePass.{Passing}
@@ -62,3 +63,11 @@ unsound t e = ap (λ (b : Bool). cond b (Sound (lastQueued t)) Unsound) e
 
 pub sound-until : (t : List ℕ) (b : ℕ) → sound t ≡ true → lastQueued t ≡ b → Sound b ≡ verdict t
 sound-until t b e l = ap Sound (sym l) ∙ ap (λ (b : Bool). cond b (Sound (lastQueued t)) Unsound) (sym e)
+
+-- what a verdict says of the table's soundness
+abbrev pub isSound : Verdict → Bool
+isSound Unsound = false
+isSound (Sound last) = true
+
+pub verdict-sound : (t : List ℕ) → isSound (verdict t) ≡ sound t
+verdict-sound t = cases (sound t) (λ e. rw e) (λ e. rw e)

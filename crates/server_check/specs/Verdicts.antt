@@ -1,6 +1,6 @@
 -- What the check says of a table: whether it is sound, and where its queue ends. Assumes nothing: these are definitions.
 use Prim.Native.Nat.{ℕ}
-use mathlib.Core.Bool.{Bool, true, false, cond}
+use mathlib.Core.Bool.{cond}
 use mathlib.Core.List.{List, [], _∷_}
 use Rattle.model.specs.declared.Chain.the-variants.{Queue}
 use Rattle.model.specs.State.{Link}
@@ -20,8 +20,3 @@ lastQueued t = lastAfter 0 (links Queue t)
 
 abbrev pub verdict : List ℕ → Verdict
 verdict t = cond (sound t) (Sound (lastQueued t)) Unsound
-
--- the table is sound
-abbrev pub isSound : Verdict → Bool
-isSound Unsound = false
-isSound (Sound last) = true
