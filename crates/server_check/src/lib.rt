@@ -1,32 +1,28 @@
 // The soundness check of a table whose server is initiated: the pass over the slots, with a walk along each of the three chains.
 ghost use mathlib.Core.Path.{_≡_};
 ghost use mathlib.Core.Bool.{true};
-ghost use Rattle.model.specs.declared.Chain.the-variants.{ByDate};
-ghost use Rattle.model.specs.Kinds.{waitsIn};
 ghost use Rattle.model.specs.Words.{serverInitiated};
 ghost use Rattle.model.specs.Sound.{headerSound, sound};
-use server_word_checks::slot_tested;
+ghost use Rattle.server_check.specs.Verdicts.{verdict};
+use server_word_checks::NOT_SOUND;
+use server_word_checks::slot_place;
 use table::*;
 use walks::*;
 
-// A timer of this kind waits in the dated chain.
-fn waits_for_date(kind: u32) -> bool
-    ensures { λ r. ⌜ r ≡ waitsIn ByDate kind ⌝ }
-{
-    if kind == WAITING_DATE {
-        return true;
-    }
-    kind == SERVER_WAITING_DATE
+// The table is not sound; or it is, and this is the last slot of the queue, 0 if the queue is empty.
+pub enum Verdict {
+    Unsound,
+    Sound(u32),
 }
 
-// Whether the table is sound, where its header is and the server is initiated. One pass over the slots; each that stands in a chain goes one step
-// along it. The slice is reborrowed where it is passed on, so that the compiler keeps it in registers.
-pub fn is_sound(t: &[u32]) -> bool
+// The verdict on a table whose header is sound and whose server is initiated. One pass over the slots; each that stands in a chain goes one step along
+// it. The walk along the queue ends behind its last slot. The slice is reborrowed where it is passed on, so that the compiler keeps it in registers.
+pub fn checked(t: &[u32]) -> Verdict
     requires { ⌜ (headerSound (now t) ≡ true) × (serverInitiated (now t) ≡ 1) ⌝ }
-    ensures { λ r. ⌜ r ≡ sound (now (t .entry)) ⌝ }
+    ensures { λ r. ⌜ r ≡ verdict (now (t .entry)) ⌝ }
 {
     if !heads_tested(&*t) {
-        return false;
+        return Verdict::Unsound;
     }
     let n = t[SLOT_COUNT];
     let mut tick_at = t[FIRST_TICKING];
@@ -39,35 +35,50 @@ pub fn is_sound(t: &[u32]) -> bool
     let mut queue_before = 0;
     let mut i = 1;
     while i <= n {
-        if !slot_tested(&*t, i) {
-            return false;
+        let place = slot_place(&*t, i);
+        if place == NOT_SOUND {
+            return Verdict::Unsound;
         }
-        let kind = get(&*t, i, KIND);
         i += 1;
-        if waits_for_ticks(kind) {
+        if place == FIRST_TICKING {
             if !tick_tested(&*t, n, tick_at, tick_before, ticks) {
-                return false;
+                return Verdict::Unsound;
             }
             ticks += wide(get(&*t, tick_at, WAIT));
             tick_before = tick_at;
             tick_at = get(&*t, tick_at, NEXT);
-        } else if waits_for_date(kind) {
+        } else if place == FIRST_DATED {
             if !date_tested(&*t, n, date_at, date_before, date) {
-                return false;
+                return Verdict::Unsound;
             }
             date = get(&*t, date_at, WAIT);
             date_before = date_at;
             date_at = get(&*t, date_at, NEXT);
-        } else if is_queued(kind) {
+        } else if place == FIRST_QUEUED {
             if !queue_tested(&*t, n, queue_at, queue_before) {
-                return false;
+                return Verdict::Unsound;
             }
             queue_before = queue_at;
             queue_at = get(&*t, queue_at, NEXT);
         }
     }
     if (tick_at | queue_at) != 0 {
-        return false;
+        return Verdict::Unsound;
     }
-    dates_ended(date_at, date_before, date)
+    if !dates_ended(date_at, date_before, date) {
+        return Verdict::Unsound;
+    }
+    Verdict::Sound(queue_before)
+}
+
+// Whether a table is sound, if its header is and its server is initiated.
+pub fn is_sound(t: &[u32]) -> bool
+    requires { ⌜ (headerSound (now t) ≡ true) × (serverInitiated (now t) ≡ 1) ⌝ }
+    ensures { λ r. ⌜ r ≡ sound (now (t .entry)) ⌝ }
+{
+    let verdict = checked(&*t);
+    match verdict {
+        Verdict::Unsound => false,
+        Verdict::Sound(_) => true,
+    }
 }

@@ -31,6 +31,8 @@
 // `walks`; the pass in `plain_check` and `server_check`.
 ghost use mathlib.Core.Path.{_≡_};
 ghost use Rattle.model.specs.Sound.{sound};
+ghost use Rattle.server_check.specs.Verdicts.{verdict};
+pub use server_check::Verdict;
 use table::*;
 use word_checks::header_sound;
 
@@ -45,4 +47,20 @@ pub fn is_sound(t: &[u32]) -> bool
         return plain_check::is_sound(&*t);
     }
     server_check::is_sound(&*t)
+}
+
+// Whether the table is sound and, if it is, the last slot of the queue, 0 if the queue is empty: for a call that may queue timers behind it.
+pub fn checked(t: &[u32]) -> Verdict
+    ensures { λ r. ⌜ r ≡ verdict (now (t .entry)) ⌝ }
+{
+    if !header_sound(&*t) {
+        return Verdict::Unsound;
+    }
+    if t[SERVER] != 0 {
+        return server_check::checked(&*t);
+    }
+    if plain_check::is_sound(&*t) {
+        return Verdict::Sound(0);
+    }
+    Verdict::Unsound
 }

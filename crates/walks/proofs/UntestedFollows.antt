@@ -72,6 +72,9 @@ module _ (server : Bool) (t : List ℕ) where
       (h .link .low, h .kind))
       c f x e
 
+  pub within : (k : Chain) (c f : ℕ) (x : Stand) → walk k t N c x ≡ true → All (λ j. j ≤ N) (along (nextOf t) f (x .slot))
+  within k c f x e = each k (λ j. j ≤ N) (λ y s. in-step k y s .link .high) c f x e
+
   intervals : (c f : ℕ) (x : Stand) → walk ByTicks t N c x ≡ true → All (λ j. 1 ≤ intervalOf t j) (along (nextOf t) f (x .slot))
   intervals c f x e =
       each ByTicks (λ j. 1 ≤ intervalOf t j)

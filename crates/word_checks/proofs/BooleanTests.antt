@@ -48,7 +48,7 @@ grouped true false b c = refl
 grouped false a b c = refl
 
 -- two numbers are zero where their bits together are
-or-none : (a b : ℕ) → bitOr a b ≡ 0 → (a ≡ 0) × (b ≡ 0)
+pub or-none : (a b : ℕ) → bitOr a b ≡ 0 → (a ≡ 0) × (b ≡ 0)
 or-none a b z =
     let s = or-add-and a b in
     let l = and-le-l a b in

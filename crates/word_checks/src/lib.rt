@@ -4,7 +4,7 @@ ghost use mathlib.Core.Bool.{_&&_, false};
 ghost use Prim.Native.Nat.{_+_, _*_, _≤_};
 ghost use lib.ListN.{length};
 ghost use Rattle.model.specs.Sound.{headerSound, unlinked, unstarted};
-ghost use Rattle.word_checks.specs.Tested.{allZero, idleTested, slotTested};
+ghost use Rattle.word_checks.specs.Tested.{allZero, newTested, idleTested, slotTested};
 use calendar::LAST_SECOND;
 use table::*;
 
@@ -68,7 +68,7 @@ pub fn header_sound(t: &[u32]) -> bool
 }
 
 // Wait, next and previous of slot i are zero.
-fn is_unlinked(t: &[u32], i: u32) -> bool
+pub fn is_unlinked(t: &[u32], i: u32) -> bool
     requires { ⌜ 8 * i + 10 ≤ length (now t) ⌝ }
     ensures { λ r. ⌜ r ≡ unlinked (now (t .entry)) i ⌝ }
 {
@@ -90,8 +90,26 @@ fn is_blank(t: &[u32], i: u32) -> bool
     )
 }
 
-// Slot i is idle: wait and links are zero, and the interval is zero after a start by date, 1 or more after one by interval.
-pub fn idle_tested(t: &[u32], i: u32, dated: bool) -> bool
+// Slot i is free or was never started: every word is zero but the kind and the name, and the name is zero just where the slot is free.
+pub fn new_tested(t: &[u32], i: u32, kind: u32) -> bool
+    requires { ⌜ 8 * i + 10 ≤ length (now t) ⌝ }
+    ensures { λ r. ⌜ r ≡ newTested (now (t .entry)) i kind ⌝ }
+{
+    let name = get(t, i, NAME);
+    if kind == FREE {
+        if 0 < name {
+            return false;
+        }
+        return is_blank(t, i);
+    }
+    if name < 1 {
+        return false;
+    }
+    is_blank(t, i)
+}
+
+// Slot i is idle, of a kind up to 7: wait and links are zero, and the interval is zero after a start by date, 1 or more after one by interval.
+fn idle_tested(t: &[u32], i: u32, dated: bool) -> bool
     requires { ⌜ 8 * i + 10 ≤ length (now t) ⌝ }
     ensures { λ r. ⌜ r ≡ idleTested (now (t .entry)) i dated ⌝ }
 {
@@ -111,17 +129,10 @@ pub fn slot_tested(t: &[u32], i: u32) -> bool
     ensures { λ r. ⌜ r ≡ slotTested false (now (t .entry)) i ⌝ }
 {
     let kind = get(t, i, KIND);
-    let name = get(t, i, NAME);
     if kind <= NEVER_STARTED {
-        if !is_blank(t, i) {
-            return false;
-        }
-        if kind == FREE {
-            return name == 0;
-        }
-        return 0 < name;
+        return new_tested(t, i, kind);
     }
-    if name < 1 {
+    if get(t, i, NAME) < 1 {
         return false;
     }
     if get(t, i, ROUTINE) < 1 {

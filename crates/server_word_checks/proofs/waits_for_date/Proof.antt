@@ -1,12 +1,12 @@
--- `server_check::waits_for_date` meets its contract, a test at a time. Assumes nothing.
+-- `server_word_checks::waits_for_date` meets its contract, a test at a time. Assumes nothing.
 use mathlib.Core.Path.{sym, ap, _∙_}
 use mathlib.Core.Bool.{Bool, _||_}
 use lib.Dec.{eqb}
 use borrow.Author.Needs.{needs}
 use borrow.Author.Tests.{ne-eqb}
 use Rattle.table.proofs.KindTests.{dated-is}
-use Rattle.server_check.proofs.waits_for_date.Statement.{statement}
-use Rattle.server_check.proofs.waits_for_date.Tie as tie
+use Rattle.server_word_checks.proofs.waits_for_date.Statement.{statement}
+use Rattle.server_word_checks.proofs.waits_for_date.Tie as tie
 
 returns : tie.Need-returns
 returns c = search needs
