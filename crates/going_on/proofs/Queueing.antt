@@ -17,7 +17,7 @@ use Rattle.model.specs.State.{Slot, Link, State, chainOf, slotAt}
 use Rattle.model.specs.Directives.{stopped, became, fired, idled, inserted}
 use Rattle.model.specs.Words.{writtenOver, read, kindOf}
 use Rattle.model.proofs.ListLaws.{cases}
-use Rattle.model.proofs.WellFormed.{Chained, Holds}
+use Rattle.model.proofs.WellFormed.{Chained}
 use Rattle.model.proofs.Chains.{without-none}
 use Rattle.model.proofs.ReadBack.{slot-read, over-over}
 use Rattle.model.proofs.Steps.{stopped-chain, chained-inserted, length-inserted}
@@ -66,10 +66,6 @@ up-to-all (w ∷ ws) h = rw (le-leb (w .wait) 0 (omega (arith, h .0))) (ap {B = 
 pub place-last : (e : Link) (l : List Link) → All (λ w. w .wait ≡ 0) l → place (λ w. w .wait) e l ≡ l ++ (e ∷ [])
 place-last e [] h = refl
 place-last e (w ∷ ws) h = rw (le-leb (w .wait) (e .wait) (omega (arith, h .0))) (ap {B = List Link} (λ l. w ∷ l) (place-last e ws (h .1)))
-
--- the last slot is the one behind which a new one comes
-pub queue-last : {t : List ℕ} {p w : ℕ} → Holds t (read t) → At Queue (read t) 0 p w → p ≡ lastSlot 0 (read t .queue)
-queue-last {t} h at = at .slot ∙ ap (lastSlot 0) (up-to-all (read t .queue) (h .chained .within Queue))
 
 -- ---- a table
 

@@ -4,8 +4,6 @@ ghost use Prim.Native.Nat.{_-_, _*_, _<_, _≤_};
 ghost use lib.ListN.{length};
 ghost use Rattle.model.specs.State.{idBase};
 ghost use Rattle.model.specs.Words.{word, read, writtenOver};
-ghost use Rattle.model.proofs.WellFormed.{Holds};
-ghost use Rattle.links.specs.Places.{lastSlot};
 ghost use Rattle.going_on.specs.GoingBack.{waitsAgain, Again, backAll, slotsIn, Entries, Sought, GoesBack, WentBack};
 ghost use Rattle.going_on.specs.Queueing.{queued, Queues};
 use chains::insert;
@@ -100,15 +98,6 @@ pub fn put_back(t: &mut [u32], list: &[u32], from: u32, n: u32)
         mark = go_back(t, i, mark);
         j += 1;
     }
-}
-
-// The last slot of the queue, 0 where it is empty.
-pub fn queue_end(t: &[u32]) -> u32
-    requires { ⌜ Holds (now t) (read (now t)) ⌝ }
-    ensures { λ r. ⌜ r ≡ lastSlot 0 (read (now (t .entry)) .queue) ⌝ }
-{
-    let place = place_from(t, Chain::Queue, 0, 0);
-    place.before
 }
 
 // A server timer of that kind, the first of the chain and due, goes to the back of the queue, whose last slot is `end`, 0 where the queue is empty.
