@@ -5,7 +5,7 @@
 ghost use mathlib.Core.Path.{_≡_};
 ghost use Prim.Native.Nat.{_+_, _*_, _<_, _≤_};
 ghost use lib.ListN.{length, set};
-ghost use Rattle.model.specs.Words.{word, headWord, waitOf};
+ghost use Rattle.model.specs.Words.{word, headWord, waitOf, nextOf};
 ghost use Rattle.model.proofs.StateWords.{linkWord};
 ghost use Rattle.chains.specs.EditedWords.{followerPut, linksPut, waitWithout, waitBehind, previousPut, extractedWords, insertedWords, Extractable, FirstExtractable, Insertable};
 use model::Chain;
@@ -133,15 +133,17 @@ fn put_previous(t: &mut [u32], n: u32, q: u32)
     put(t, n, PREVIOUS, q);
 }
 
-// Slot i, the first of its chain, leaves it. In the interval chain it has no ticks left, so that its follower's wait stays.
-pub fn extract_first(t: &mut [u32], chain: Chain, i: u32)
+// Slot i, the first of its chain, leaves it. In the interval chain it has no ticks left, so that its follower's wait stays. Gives the slot that
+// followed it, which is the first then.
+pub fn extract_first(t: &mut [u32], chain: Chain, i: u32) -> u32
     requires { ⌜ FirstExtractable chain (now t) i ⌝ }
-    ensures { λ _. ⌜ now (t .exit) ≡ extractedWords chain (now (t .entry)) i ⌝ }
+    ensures { λ r. ⌜ (now (t .exit) ≡ extractedWords chain (now (t .entry)) i) × (r ≡ nextOf (now (t .entry)) i) ⌝ }
 {
     let n = get(t, i, NEXT);
     put_next(t, chain, 0, n);
     put_previous(t, n, 0);
     put_links(t, i, 0, 0, 0);
+    n
 }
 
 // Slot i comes behind slot p, with wait w.

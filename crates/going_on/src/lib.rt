@@ -3,7 +3,7 @@ ghost use mathlib.Core.Path.{_≡_};
 ghost use Prim.Native.Nat.{_-_, _*_, _<_, _≤_};
 ghost use lib.ListN.{length};
 ghost use Rattle.model.specs.State.{idBase};
-ghost use Rattle.model.specs.Words.{word, read, writtenOver};
+ghost use Rattle.model.specs.Words.{word, read, writtenOver, nextOf};
 ghost use Rattle.going_on.specs.GoingBack.{waitsAgain, Again, backAll, slotsIn, Entries, Sought, GoesBack, WentBack};
 ghost use Rattle.going_on.specs.Queueing.{queued, Queues};
 use chains::insert;
@@ -101,11 +101,13 @@ pub fn put_back(t: &mut [u32], list: &[u32], from: u32, n: u32)
 }
 
 // A server timer of that kind, the first of the chain and due, goes to the back of the queue, whose last slot is `end`, 0 where the queue is empty.
-pub fn queue(t: &mut [u32], chain: Chain, i: u32, kind: u32, end: u32)
+// Gives the slot that followed it in the chain.
+pub fn queue(t: &mut [u32], chain: Chain, i: u32, kind: u32, end: u32) -> u32
     requires { ⌜ Queues chain (now t) i kind end ⌝ }
-    ensures { λ _. ⌜ now (t .exit) ≡ writtenOver (queued (read (now (t .entry))) i) (now (t .entry)) ⌝ }
+    ensures { λ r. ⌜ (now (t .exit) ≡ writtenOver (queued (read (now (t .entry))) i) (now (t .entry))) × (r ≡ nextOf (now (t .entry)) i) ⌝ }
 {
-    stop_first(t, chain, i, kind - TO_IDLE);
+    let next = stop_first(t, chain, i, kind - TO_IDLE);
     insert(t, Chain::Queue, end, i, 0);
     put(t, i, KIND, kind + TO_QUEUED);
+    next
 }

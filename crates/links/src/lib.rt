@@ -7,7 +7,7 @@ ghost use lib.ListN.{length};
 ghost use Rattle.model.specs.Kinds.{kindAt, chainFor, waitingKind, intervalIn, linked, waitsIn};
 ghost use Rattle.model.specs.State.{chainOf, slotAt, waitAt};
 ghost use Rattle.model.specs.Directives.{stored, stopped, idled, started};
-ghost use Rattle.model.specs.Words.{difference, accumulated, read, writtenOver, waitOf};
+ghost use Rattle.model.specs.Words.{difference, accumulated, read, writtenOver, waitOf, nextOf};
 ghost use Rattle.model.proofs.WellFormed.{Holds, timesIn};
 ghost use Rattle.links.specs.Places.{At, InTable, Stops, FirstStops, IdleInTable, From};
 ghost use Rattle.links.specs.TimerWords.{timerPut};
@@ -131,13 +131,14 @@ fn stop_in(t: &mut [u32], chain: Chain, i: u32, idle: u32)
     put(t, i, KIND, idle);
 }
 
-// The first timer of the chain stops, as that kind; in the interval chain it is due.
-pub fn stop_first(t: &mut [u32], chain: Chain, i: u32, idle: u32)
+// The first timer of the chain stops, as that kind; in the interval chain it is due. Gives the slot that followed it.
+pub fn stop_first(t: &mut [u32], chain: Chain, i: u32, idle: u32) -> u32
     requires { ⌜ FirstStops (now t) chain i idle ⌝ }
-    ensures { λ _. ⌜ now (t .exit) ≡ writtenOver (stopped (read (now (t .entry))) i (idled (slotAt (read (now (t .entry)) .slots) i))) (now (t .entry)) ⌝ }
+    ensures { λ r. ⌜ (now (t .exit) ≡ writtenOver (stopped (read (now (t .entry))) i (idled (slotAt (read (now (t .entry)) .slots) i))) (now (t .entry))) × (r ≡ nextOf (now (t .entry)) i) ⌝ }
 {
-    extract_first(t, chain, i);
+    let next = extract_first(t, chain, i);
     put(t, i, KIND, idle);
+    next
 }
 
 // A waiting timer becomes idle of its own kind; one that does not wait stays as it is.

@@ -116,7 +116,7 @@ module _ {t : List ℕ} (h : Holds t (read t)) {i : ℕ} (here : i ≡ firstQueu
         ∙ sym (stopped-chain s j (idled x) m
         ∙ without-none j (chainOf m s) (omega (arith, here-once, once-apart s (h .chained) m Queue away j)))))
 
-    pub serve-some : (list : List ℕ) → 3 ≤ length list → {t′ list′ : List ℕ} → CameOff t list i 0 t′ list′ → Served t list 1 t′ list′
+    pub serve-some : (list : List ℕ) → 3 ≤ length list → {next : ℕ} {t′ list′ : List ℕ} → CameOff t list i 0 next t′ list′ → Served t list 1 t′ list′
     serve-some list long f =
         let fs = map (listed (s .slots)) (a .entry ∷ []) in
         record {

@@ -51,8 +51,9 @@ returns : tie.Need-returns
 returns c =
     let listing = c .before .before .before .before .before .before .before in
     record {
-      table = c .before .before .stop-first .ensures;
+      table = c .before .before .stop-first .ensures .0;
       entry = rw (← listing .before .before .before .before .get .ensures, ← listing .before .before .get2 .ensures) (listing .put-entry .ensures);
+      followed = c .before .before .stop-first .ensures .1;
     }
 
 pub come-off-spec : {M : Type 1} → statement M

@@ -17,7 +17,7 @@ insert-requires : tie.Need-insert-requires
 insert-requires c κs =
     let done = c .before .before .before .stop-first in
     let start = c .before .before .before .before .before .before in
-    queue-insertable (start .args .t .now) (start .pre) (done .last .0) (done .ensures)
+    queue-insertable (start .args .t .now) (start .pre) (done .last .0) (done .ensures .0)
 
 add-put : tie.Need-add-put
 add-put c = search needs
@@ -38,7 +38,8 @@ returns c =
     let put = last .before .before .before .before in
     let done = put .before .before .before .before in
     let start = done .before .before .before in
-    queue-now (start .args .t .now) (start .pre) (done .stop-first .last .0) (done .stop-first .ensures) refl (put .insert .ensures) (last .put .ensures)
+    (queue-now (start .args .t .now) (start .pre) (done .stop-first .last .0) (done .stop-first .ensures .0) refl (put .insert .ensures) (last .put .ensures),
+    done .stop-first .ensures .1)
 
 pub queue-spec : {M : Type 1} → statement M
 queue-spec = tie.close (tie.spec sub-stop-first stop-first-requires insert-requires add-put put-requires same-length returns)

@@ -26,8 +26,8 @@ returns c =
     let done = c .before .before .before .before .before .before in
     let start = done .before .before .before in
     let stops = start .pre .stops in
-    stop-waiting (start .args .t .now) (start .args .i) (stops .in-table) (start .args .chain) (stops .waits)
-    (start .args .idle) (stops .kind) (done .extract-first .ensures) (c .before .before .put .ensures)
+    (stop-waiting (start .args .t .now) (start .args .i) (stops .in-table) (start .args .chain) (stops .waits)
+    (start .args .idle) (stops .kind) (done .extract-first .ensures .0) (c .before .before .put .ensures), done .extract-first .ensures .1)
 
 pub stop-first-spec : {M : Type 1} → statement M
 stop-first-spec = tie.close (tie.spec extract-first-requires put-requires same-length returns)
