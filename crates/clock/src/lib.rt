@@ -50,7 +50,14 @@ pub fn tick(table: &mut [u32], fired: &mut [u32]) -> Answer
     let ticking = fire(table, fired, Chain::ByTicks, 0, 0, end);
     step_clock(table);
     let second = table[SECONDS];
-    let dated = fire(table, fired, Chain::ByDate, second, ticking.count, ticking.end);
+    let dated = fire(
+        table,
+        fired,
+        Chain::ByDate,
+        second,
+        ticking.count,
+        ticking.end,
+    );
     Answer::Done(dated.count)
 }
 

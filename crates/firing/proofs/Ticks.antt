@@ -121,8 +121,12 @@ module _ (t list : List ℕ) (ok : sound t ≡ true) (long : 3 * slotCount t ≤
 
       first-few : n ≤ length (nearer (read t) .ticking)
       first-few =
-          omega (arith, first-count, length-without (read t .slots) (due ByTicks limit (nearer (read t))),
-          length-keep (λ w. leb (w .wait) limit) (nearer (read t) .ticking))
+          omega (
+            arith,
+            first-count,
+            length-without (read t .slots) (due ByTicks limit (nearer (read t))),
+            length-keep (λ w. leb (w .wait) limit) (nearer (read t) .ticking),
+          )
 
       first-entries : list₂ ≡ sets list 0 (entryWords (map (listed (read t .slots)) (dueListed ByTicks limit (nearer (read t)))))
       first-entries =
@@ -170,8 +174,15 @@ module _ (t list : List ℕ) (ok : sound t ≡ true) (long : 3 * slotCount t ≤
             let all-due = withoutServer (s .slots) (due ByTicks limit (nearer s) ++ due ByDate second later) in
             let parts : all-due ≡ first ++ then = keep-append (λ w. not (isServerAt (s .slots) w)) (due ByTicks limit (nearer s)) (due ByDate second later) in
             let number : m ≡ length all-due =
-            omega (arith, f₃ .count, first-count, ap (λ (z : State). length (dueListed ByDate second z)) (next-read after-clock), ap length same,
-            ap length parts, length-append first then) in
+            omega (
+              arith,
+              f₃ .count,
+              first-count,
+              ap (λ (z : State). length (dueListed ByDate second z)) (next-read after-clock),
+              ap length same,
+              ap length parts,
+              length-append first then,
+            ) in
             let place : 3 * n ≡ 0 + length (entryWords (map g first)) =
             omega (arith, first-count, length-entries (map g first), length-map first g) in
             record {
@@ -185,8 +196,17 @@ module _ (t list : List ℕ) (ok : sound t ≡ true) (long : 3 * slotCount t ≤
                   ∙ sets-append list 0 (entryWords (map g first)) (entryWords (map g then))
                   ∙ ap (sets list 0) (sym (ap (λ (ws : List Link). entryWords (map g ws)) parts ∙ ap entryWords (map-append g first then)
                   ∙ entries-append (map g first) (map g then)))
-                  ∙ at-once all-due (omega (arith, first-few, first-count, length-without (s .slots) (due ByDate second later),
-                  length-keep (λ w. leb (w .wait) second) (later .dated), ap length later-dated, few-both, ap length parts, length-append first then));
+                  ∙ at-once all-due (omega (
+                    arith,
+                    first-few,
+                    first-count,
+                    length-without (s .slots) (due ByDate second later),
+                    length-keep (λ w. leb (w .wait) second) (later .dated),
+                    ap length later-dated,
+                    few-both,
+                    ap length parts,
+                    length-append first then,
+                  ));
             }
 
   -- ---- a set clock, whatever it fires then
@@ -214,6 +234,10 @@ module _ (t list : List ℕ) (ok : sound t ≡ true) (long : 3 * slotCount t ≤
           answer = λ j. number j ∷ [];
           entries = f .entries
               ∙ ap (λ (z : State). sets list (3 * 0) (entryWords (map (listed (z .slots)) (dueListed k limit z)))) (next-read after-set)
-              ∙ at-once (dueListed k limit later) (omega (arith, length-without (read t .slots) (due k limit later),
-              length-keep (λ w. leb (w .wait) limit) (chainOf k later), few-one k));
+              ∙ at-once (dueListed k limit later) (omega (
+                arith,
+                length-without (read t .slots) (due k limit later),
+                length-keep (λ w. leb (w .wait) limit) (chainOf k later),
+                few-one k,
+              ));
         }

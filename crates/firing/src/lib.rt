@@ -95,7 +95,14 @@ fn turn(t: &mut [u32], list: &mut [u32], chain: Chain, counts: Counts) -> Counts
 }
 
 // The timers at the front of a chain whose wait is not above the limit come off it; those listed are the entries from `from` on.
-fn take_off(t: &mut [u32], list: &mut [u32], chain: Chain, limit: u32, from: u32, end: u32) -> Counts
+fn take_off(
+    t: &mut [u32],
+    list: &mut [u32],
+    chain: Chain,
+    limit: u32,
+    from: u32,
+    end: u32,
+) -> Counts
     requires { ⌜ Room chain (now t) (now list) limit from end ⌝ }
     ensures { λ r. ⌜ TakesOff chain (now (t .entry)) (now (list .entry)) limit from false (tallyOf (r .count) (r .periodic) (r .end) (r .front)) (now (t .exit)) (now (list .exit)) ⌝ }
 {

@@ -77,7 +77,7 @@ fn interval_in(chain: Chain, amount: u32) -> u32
     }
 }
 
-// The kind of a timer that stops; one that does not wait keeps its own.
+// The kind of a timer that stops; one that is in no chain keeps its own.
 pub fn stopped_kind(kind: u32) -> u32
     ensures { λ r. ⌜ r ≡ kindAt kind .whenStopped ⌝ }
 {
@@ -105,7 +105,7 @@ pub fn stopped_kind(kind: u32) -> u32
     kind
 }
 
-// The chain in which a timer of the kind waits.
+// The chain in which a timer of the kind stands.
 fn chain_in(kind: u32) -> Chain
     requires { ⌜ linked kind ≡ true ⌝ }
     ensures { λ r. ⌜ waitsIn r kind ≡ true ⌝ }
@@ -122,7 +122,7 @@ fn chain_in(kind: u32) -> Chain
     Chain::ByTicks
 }
 
-// A timer that waits in the chain stops, as that kind.
+// A timer that stands in the chain stops, as that kind.
 fn stop_in(t: &mut [u32], chain: Chain, i: u32, idle: u32)
     requires { ⌜ Stops (now t) chain i idle ⌝ }
     ensures { λ _. ⌜ now (t .exit) ≡ writtenOver (stopped (read (now (t .entry))) i (idled (slotAt (read (now (t .entry)) .slots) i))) (now (t .entry)) ⌝ }
@@ -141,7 +141,7 @@ pub fn stop_first(t: &mut [u32], chain: Chain, i: u32, idle: u32) -> u32
     next
 }
 
-// A waiting timer becomes idle of its own kind; one that does not wait stays as it is.
+// A waiting or queued timer becomes idle of its own kind; one in no chain stays as it is.
 pub fn stop(t: &mut [u32], i: u32)
     requires { ⌜ InTable (now t) i ⌝ }
     ensures { λ _. ⌜ now (t .exit) ≡ writtenOver (stopped (read (now (t .entry))) i (idled (slotAt (read (now (t .entry)) .slots) i))) (now (t .entry)) ⌝ }

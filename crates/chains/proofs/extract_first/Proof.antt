@@ -26,9 +26,11 @@ returns c =
     let follows = links .before .before .before .before in
     let puts = follows .before .before .before .before in
     let next = puts .before .before in
-    let start = next .before .before .before in
-    (first-extracted (start .args .chain) (start .args .t .now) (start .args .i) (start .pre) (next .get .ensures)
-    (puts .put-next .ensures) (follows .put-previous .ensures) (links .put-links .ensures), next .get .ensures)
+    let start = next .before .before .before in (
+      first-extracted (start .args .chain) (start .args .t .now) (start .args .i) (start .pre) (next .get .ensures)
+          (puts .put-next .ensures) (follows .put-previous .ensures) (links .put-links .ensures),
+      next .get .ensures,
+    )
 
 pub extract-first-spec : {M : Type 1} → statement M
 extract-first-spec =

@@ -37,9 +37,10 @@ returns c =
     let last = c .before .before in
     let put = last .before .before .before .before in
     let done = put .before .before .before .before in
-    let start = done .before .before .before in
-    (queue-now (start .args .t .now) (start .pre) (done .stop-first .last .0) (done .stop-first .ensures .0) refl (put .insert .ensures) (last .put .ensures),
-    done .stop-first .ensures .1)
+    let start = done .before .before .before in (
+      queue-now (start .args .t .now) (start .pre) (done .stop-first .last .0) (done .stop-first .ensures .0) refl (put .insert .ensures) (last .put .ensures),
+      done .stop-first .ensures .1,
+    )
 
 pub queue-spec : {M : Type 1} → statement M
 queue-spec = tie.close (tie.spec sub-stop-first stop-first-requires insert-requires add-put put-requires same-length returns)

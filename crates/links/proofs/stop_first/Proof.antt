@@ -25,9 +25,11 @@ returns : tie.Need-returns
 returns c =
     let done = c .before .before .before .before .before .before in
     let start = done .before .before .before in
-    let stops = start .pre .stops in
-    (stop-waiting (start .args .t .now) (start .args .i) (stops .in-table) (start .args .chain) (stops .waits)
-    (start .args .idle) (stops .kind) (done .extract-first .ensures .0) (c .before .before .put .ensures), done .extract-first .ensures .1)
+    let stops = start .pre .stops in (
+      stop-waiting (start .args .t .now) (start .args .i) (stops .in-table) (start .args .chain) (stops .waits)
+          (start .args .idle) (stops .kind) (done .extract-first .ensures .0) (c .before .before .put .ensures),
+      done .extract-first .ensures .1,
+    )
 
 pub stop-first-spec : {M : Type 1} → statement M
 stop-first-spec = tie.close (tie.spec extract-first-requires put-requires same-length returns)
