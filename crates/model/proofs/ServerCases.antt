@@ -4,7 +4,7 @@ use Prim.Native.Nat.{ℕ, _+_, _*_}
 use mathlib.Core.Bool.{true, false}
 use mathlib.Core.Option.{none, some}
 use mathlib.Core.List.{List, [], _∷_, _++_, map}
-use lib.ListN.{replicate}
+use lib.ListN.{replicate, set}
 use Rattle.calendar.specs.declared.WallTime.{WallTime}
 use Rattle.calendar.specs.Calendar.{monthsOf, years, valid, secondsOf}
 use Rattle.model.specs.Lists.{keep, InOrder}
@@ -239,6 +239,16 @@ takenCases =
 pub taken-off : map tried takenCases ≡ takenCases
 unfolding monthsOf years valid secondsOf headerSound slotSound chainSound ticksSound datesSound queueSound sound statusOn outcome
 taken-off = refl
+
+-- ---- the queue's links
+
+-- The queue 2, 3, 1 is sound with word 9, and each next and previous, as they are, and with no other number up to 4.
+abbrev soundWith : ℕ → List ℕ
+soundWith i = keep (λ v. sound (set mixed i v)) (0 ∷ 1 ∷ 2 ∷ 3 ∷ 4 ∷ [])
+
+pub one-way-linked : map soundWith (9 ∷ 16 ∷ 17 ∷ 24 ∷ 25 ∷ 32 ∷ 33 ∷ []) ≡ (2 ∷ []) ∷ (0 ∷ []) ∷ (3 ∷ []) ∷ (3 ∷ []) ∷ (0 ∷ []) ∷ (1 ∷ []) ∷ (2 ∷ []) ∷ []
+unfolding headerSound slotSound chainSound ticksSound datesSound queueSound sound
+one-way-linked = refl
 
 -- ---- the words of demand 3
 
