@@ -246,9 +246,9 @@ taken-off = refl
 abbrev soundWith : ℕ → List ℕ
 soundWith i = keep (λ v. sound (set mixed i v)) (0 ∷ 1 ∷ 2 ∷ 3 ∷ 4 ∷ [])
 
-pub one-way-linked : map soundWith (9 ∷ 16 ∷ 17 ∷ 24 ∷ 25 ∷ 32 ∷ 33 ∷ []) ≡ (2 ∷ []) ∷ (0 ∷ []) ∷ (3 ∷ []) ∷ (3 ∷ []) ∷ (0 ∷ []) ∷ (1 ∷ []) ∷ (2 ∷ []) ∷ []
+pub only-these-links : map soundWith (9 ∷ 16 ∷ 17 ∷ 24 ∷ 25 ∷ 32 ∷ 33 ∷ []) ≡ (2 ∷ []) ∷ (0 ∷ []) ∷ (3 ∷ []) ∷ (3 ∷ []) ∷ (0 ∷ []) ∷ (1 ∷ []) ∷ (2 ∷ []) ∷ []
 unfolding headerSound slotSound chainSound ticksSound datesSound queueSound sound
-one-way-linked = refl
+only-these-links = refl
 
 -- ---- the words of demand 3
 
@@ -292,7 +292,7 @@ pub fires-or-queued : map (λ e. idsOf (keep (fires e) (starts before)) ∷ idsO
     ≡ ((third ∷ []) ∷ (two ∷ one ∷ []) ∷ []) ∷ ([] ∷ (two ∷ []) ∷ []) ∷ ([] ∷ [] ∷ []) ∷ []
 fires-or-queued = refl
 
--- They wait until then, by their ticks left or dates, and not after it; nothing is due in a second tick.
+-- They wait until then, by their ticks left or dates, and not after it: in a second tick only z is due, which was started between the two.
 pub queued-once : map (λ h. idsOf (keep waits (starts h)) ∷ map ticksLeftOrDate (keep waits (starts h)) ∷ idsOf (keep (isQueued oneTick) (starts h)) ∷ [])
     (before ∷ (changes fourth (some z) ∷ oneTick ∷ before) ∷ [])
     ≡ ((two ∷ third ∷ one ∷ []) ∷ (5 ∷ 1 ∷ 1 ∷ []) ∷ (two ∷ one ∷ []) ∷ []) ∷ ((fourth ∷ []) ∷ (1 ∷ []) ∷ (fourth ∷ []) ∷ []) ∷ []
