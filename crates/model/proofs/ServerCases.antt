@@ -14,10 +14,11 @@ use Rattle.model.specs.State.{idBase}
 use Rattle.model.specs.Sound.{headerSound, slotSound, chainSound, ticksSound, datesSound, queueSound, sound}
 use Rattle.model.specs.Outcome.{statusOn, outcome}
 use Rattle.model.specs.History.{Start, startOf, Event, eventsOn, laidOutFor, changes, deletes, oneTick, clockSetTo, initiates, servesFront, Placed, starts, waits, fires, isQueued, inChain, ticksLeftOrDate, Queues, leftInQueue, IsQueue, isInitiated, serves, takenOff}
+use Rattle.model.specs.Demand.{after, HandsOut, eventsAfter, Demanded}
 use Rattle.model.proofs.Order.{order, order-in-order}
 use Rattle.model.proofs.QueueLaws.{queue-calm, queue-moved}
 use Rattle.model.proofs.Cases.{Case, calls, computed, lists, date, nine, unlent}
-use Rattle.model.proofs.WorkedCases.{one, two, three, no, yes}
+use Rattle.model.proofs.WorkedCases.{one, two, three, six, no, yes}
 
 abbrev third : ℕ
 third = 0x12010003
@@ -355,3 +356,26 @@ pub left-in-queue : map (λ e. map (λ (s : Start). s .id) (leftInQueue e (x ∷
     (servesFront ∷ changes two none ∷ deletes one ∷ laidOutFor 10 ∷ oneTick ∷ initiates ∷ changes fourth (some z) ∷ [])
     ≡ (two ∷ []) ∷ (one ∷ []) ∷ (two ∷ []) ∷ [] ∷ (one ∷ two ∷ []) ∷ (one ∷ two ∷ []) ∷ (one ∷ two ∷ []) ∷ []
 left-in-queue = refl
+
+-- Two timers are queued. The second is handed out by the second serve after that; by the first where the one ahead of it is cancelled.
+abbrev slice : List ℕ
+slice = replicate 26 0
+
+abbrev untilQueued : List Call
+untilQueued = create 1 ∷ create 2 ∷ initiateServer ∷ serverFireAfter one 1 7 70 ∷ serverFireAfter two 1 8 80 ∷ tick six ∷ []
+
+abbrev ahead : Start
+ahead = startOf one ServerAfter 1 7 70
+
+abbrev second : Start
+second = startOf two ServerAfter 1 8 80
+
+pub by-second-serve : Demanded slice 2 10 (untilQueued ++ (serve three ∷ serve three ∷ [])) → IsQueue (eventsAfter slice (layOut 2 10 ∷ untilQueued)) (ahead ∷ second ∷ [])
+    → HandsOut (after slice (layOut 2 10 ∷ untilQueued ++ (serve three ∷ []))) three second
+unfolding headerSound slotSound chainSound ticksSound datesSound queueSound sound statusOn outcome
+by-second-serve demanded queue = demanded .in-turn untilQueued (serve three ∷ []) [] three refl (ahead ∷ []) [] second queue (servesFront ∷ []) refl refl refl
+
+pub one-sooner : Demanded slice 2 10 (untilQueued ++ (cancel one ∷ serve three ∷ [])) → IsQueue (eventsAfter slice (layOut 2 10 ∷ untilQueued)) (ahead ∷ second ∷ [])
+    → HandsOut (after slice (layOut 2 10 ∷ untilQueued ++ (cancel one ∷ []))) three second
+unfolding headerSound slotSound chainSound ticksSound datesSound queueSound sound statusOn outcome
+one-sooner demanded queue = demanded .in-turn untilQueued (cancel one ∷ []) [] three refl (ahead ∷ []) [] second queue (changes one none ∷ []) refl refl refl
