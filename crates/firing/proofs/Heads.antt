@@ -8,7 +8,7 @@ use mathlib.Core.List.{List, [], _∷_}
 use lib.ListN.{length}
 use Rattle.model.specs.declared.Chain.{Chain}
 use Rattle.model.specs.State.{Link, chainOf}
-use Rattle.model.specs.Words.{first, word, headWord, read, waitOf}
+use Rattle.model.specs.Words.{first, word, headWord, read, waitOf, previousOf}
 use Rattle.model.proofs.WellFormed.{Holds}
 use Rattle.model.proofs.StateWords.{holds-parts}
 use Rattle.links.proofs.LinkInMiddle.{mid-stands, mid-own}
@@ -21,6 +21,7 @@ pub record Front (k : Chain) (t : List ℕ) (i : ℕ) : Type 0 where
   pub whole : chainOf k (read t) ≡ entry ∷ back
   pub slot : i ≡ entry .slot
   pub wait : waitOf t i ≡ entry .wait
+  pub previous : previousOf t i ≡ 0
   pub low : 1 ≤ i
   pub high : i ≤ length (read t .slots)
 
@@ -49,6 +50,7 @@ module _ (k : Chain) {t : List ℕ} {i : ℕ} (h : Holds t (read t)) (here : i �
             whole = q;
             slot = e;
             wait = ap (waitOf t) e ∙ mid-stands k t (read t) h [] y ys q .wait ∙ differ-zero k (y .wait);
+            previous = ap (previousOf t) e ∙ mid-stands k t (read t) h [] y ys q .previous;
             low = omega arith;
             high = omega arith;
           }

@@ -11,7 +11,7 @@ use borrow.Author.Tests.{eqb-true, eqb-false, eq-eqb, ne-eqb, not-true}
 use Rattle.model.specs.Lists.{keep, place, All, Sorted}
 use Rattle.model.specs.Kinds.{Chain, ByTicks, ByDate, Queue, Mode, kindAt, chainFor, sameChain, waitsIn, intervalIn}
 use Rattle.model.specs.State.{Slot, Link, Clock, State, chainOf, withChain, withClock, free, slotAt, putAt, without}
-use Rattle.model.specs.Directives.{laidOut, stored, stopped, waitingAs, started, fired, firedAll, waitAgain, due, off, fire, front, handedOut, initiated, closer, nearer}
+use Rattle.model.specs.Directives.{laidOut, stored, stopped, inserted, waitingAs, started, fired, firedAll, waitAgain, due, off, fire, front, handedOut, initiated, closer, nearer}
 use Rattle.model.proofs.ListLaws.{cases, clash, all, all-map, keep-on, keep-none, map-on, all-keep, all-passed, all-zip, all-place, all-mapped, sorted-place, not-leb, count-place, any-some, any-none, sorted-keep, count-parts}
 use Rattle.model.proofs.Slots.{at-same, at-other, length-put, put-at, blank, memo, memo-firedAll, length-firedAll}
 use Rattle.model.proofs.WellFormed.{timesIn, Within, Fits, Chained}
@@ -201,16 +201,23 @@ module _ (s : State) (h : Chained s) (i : ℕ) (x : Slot) (low : 0 < i) (high : 
   pub chained-stopped : ((k : Chain) → waitsIn k (x .kind) ≡ false) → Chained (stopped s i x)
   chained-stopped n = chained (stopped s i x) few-put (λ k. ordered-stopped k (n k))
 
+-- slot i becomes x and goes into chain k, where its kind waits
+pub chained-inserted : (k : Chain) (s : State) → Chained s → (i amount : ℕ) (x : Slot) → 0 < i → i ≤ length (s .slots)
+    → ((j : Chain) → waitsIn j (x .kind) ≡ sameChain j k) → Within k amount (x .interval) → Chained (inserted k (stopped s i x) i amount)
+chained-inserted k s h i amount x low high only within =
+    rw (stopped-chain s i x k) (
+    chained-with-chain (stopped s i x) (putAt (s .slots) i x) (place (λ w. w .wait) (record { slot = i; wait = amount }) (without i (chainOf k s))) k
+    (few-put s h i x low high)
+    (ordered-place k (s .slots) (chainOf k s) (ordered s h k) i amount x low high (only k ∙ own-chain k) within)
+    (λ j e. ordered-stopped s h i x low high j (only j ∙ e)))
+
+pub length-inserted : (k : Chain) (s : State) (i amount : ℕ) (x : Slot) → length (inserted k (stopped s i x) i amount .slots) ≡ length (s .slots)
+length-inserted k s i amount x = simp (with-chain-slots, length-put)
+
 module _ (m : Mode) (s : State) where
   pub chained-started : Chained s → (i amount r u : ℕ) → 0 < i → i ≤ length (s .slots) → Chained (started m s i amount r u)
   chained-started h i amount r u low high =
-      let k = chainFor m in
-      let x : Slot = waitingAs m (slotAt (s .slots) i) amount r u in
-      rw (stopped-chain s i x k) (
-      chained-with-chain (stopped s i x) (putAt (s .slots) i x) (place (λ w. w .wait) (record { slot = i; wait = amount }) (without i (chainOf k s))) k
-      (few-put s h i x low high)
-      (ordered-place k (s .slots) (chainOf k s) (ordered s h k) i amount x low high (mode-in m k ∙ own-chain k) (fits k (not-queue m)))
-      (λ j e. ordered-stopped s h i x low high j (mode-in m j ∙ e)))
+      chained-inserted (chainFor m) s h i amount (waitingAs m (slotAt (s .slots) i) amount r u) low high (mode-in m) (fits (chainFor m) (not-queue m))
     where
       fits : (k : Chain) → sameChain Queue k ≡ false → Within k amount (intervalIn k amount)
       fits ByTicks e = omega arith
@@ -218,7 +225,7 @@ module _ (m : Mode) (s : State) where
       fits Queue e = clash e
 
   pub length-started : (i amount r u : ℕ) → length (started m s i amount r u .slots) ≡ length (s .slots)
-  length-started i amount r u = simp (with-chain-slots, length-put)
+  length-started i amount r u = length-inserted (chainFor m) s i amount (waitingAs m (slotAt (s .slots) i) amount r u)
 
 -- ---- fired, a tick nearer, at another time, laid out
 
@@ -231,6 +238,17 @@ pub with-clock-chain : (s : State) (c : Clock) (k : Chain) → chainOf k (withCl
 with-clock-chain s c ByTicks = refl
 with-clock-chain s c ByDate = refl
 with-clock-chain s c Queue = refl
+
+-- two states are the same where their parts are
+pub same-state : (s s′ : State) → s .slots ≡ s′ .slots → s .clock ≡ s′ .clock → s .server ≡ s′ .server → ((m : Chain) → chainOf m s ≡ chainOf m s′) → s ≡ s′
+same-state s s′ slots clock server chains = λ d. record {
+  slots = slots d;
+  clock = clock d;
+  ticking = chains ByTicks d;
+  dated = chains ByDate d;
+  server = server d;
+  queue = chains Queue d;
+}
 
 module _ (k : Chain) (limit : ℕ) (s : State) where
   pub fire-slots : fire k limit s .slots ≡ firedAll (due k limit s) (s .slots)
@@ -290,7 +308,7 @@ module _ (k : Chain) (s : State) (h : Chained s) (ws rest : List Link)
       in-kind false p = absurd (omega arith)
 
   -- each that fires has the kind of one that fired
-  goes-fired : (j : Chain) → All (λ w. goesTo j fs w ≡ waitsIn j (kindAt (slotAt (s .slots) (w .slot) .kind) .whenFired)) ws
+  pub goes-fired : (j : Chain) → All (λ w. goesTo j fs w ≡ waitsIn j (kindAt (slotAt (s .slots) (w .slot) .kind) .whenFired)) ws
   goes-fired j = all-map (λ w p.
       let a = cases (among ws (w .slot)) (λ e. e) (λ e. absurd (omega (arith, any-none (λ y. eqb (y .slot) (w .slot)) ws e))) in
       let x = slotAt (s .slots) (w .slot) in

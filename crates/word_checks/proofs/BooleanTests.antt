@@ -48,14 +48,14 @@ grouped true false b c = refl
 grouped false a b c = refl
 
 -- two numbers are zero where their bits together are
-or-none : (a b : ℕ) → bitOr a b ≡ 0 → (a ≡ 0) × (b ≡ 0)
+pub or-none : (a b : ℕ) → bitOr a b ≡ 0 → (a ≡ 0) × (b ≡ 0)
 or-none a b z =
     let s = or-add-and a b in
     let l = and-le-l a b in
     let r = and-le-r a b in
     (omega arith, omega arith)
 
-or-both : (a b : ℕ) → eqb (bitOr a b) 0 ≡ (eqb a 0 && eqb b 0)
+pub or-both : (a b : ℕ) → eqb (bitOr a b) 0 ≡ (eqb a 0 && eqb b 0)
 or-both a b =
     same (eqb (bitOr a b) 0) (eqb a 0 && eqb b 0)
     (λ e.

@@ -7,7 +7,7 @@ use native.Mathlib.Omega.{arith}
 use lib.ListN.{length}
 use Rattle.model.specs.declared.Status.the-variants.{NotSound, ListTooShort}
 use Rattle.model.specs.Words.{slotCount}
-use Rattle.model.proofs.SoundHolds.{sound-header}
+use Rattle.model.proofs.SoundHolds.{sound-header, sound-holds}
 use Rattle.answers.proofs.Replies.{Tested, tested, not-same}
 use Rattle.answers.proofs.Openings.{goes-on, stops}
 use Rattle.clock.proofs.Lists.{too-short, not-short}
@@ -48,11 +48,15 @@ returns-2 c =
     let b = c .before .before in
     stops ListTooShort 1 (sure b .rule, tt) (too-short (t b) (list b) (omega (arith, c .if2 .taken))) refl
 
+queue-end-requires : tie.Need-queue-end-requires
+queue-end-requires c κs = let b = c .before .before in sound-holds (t b) (sure b .ok)
+
 returns-3 : tie.Need-returns-3
 returns-3 c =
-    let b = c .before .before in
-    let long : 3 * slotCount (t b) ≤ length (list b) = omega (arith, c .if2 .left) in
-    goes-on (record { ok = sure b .ok; tested = sure b .rule; rule = not-short (t b) (list b) long; long = long })
+    let tried = c .before in
+    let b = tried .before .before in
+    let long : 3 * slotCount (t b) ≤ length (list b) = omega (arith, tried .if2 .left) in
+    goes-on (record { ok = sure b .ok; tested = sure b .rule; rule = not-short (t b) (list b) long; long = long; last = c .queue-end .ensures })
 
 pub open-list-spec : {M : Type 1} → statement M
 open-list-spec =
@@ -64,4 +68,5 @@ open-list-spec =
     cast-if2
     mul-if2
     returns-2
+    queue-end-requires
     returns-3)
