@@ -53,14 +53,17 @@ pub fn is_sound(t: &[u32]) -> bool
 pub fn checked(t: &[u32]) -> Verdict
     ensures { λ r. ⌜ r ≡ verdict (now (t .entry)) ⌝ }
 {
+    if t.len() < HEADER {
+        return Verdict::Unsound;
+    }
+    if t[SERVER] == 0 {
+        if is_sound(&*t) {
+            return Verdict::Sound(0);
+        }
+        return Verdict::Unsound;
+    }
     if !header_sound(&*t) {
         return Verdict::Unsound;
     }
-    if t[SERVER] != 0 {
-        return server_check::checked(&*t);
-    }
-    if plain_check::is_sound(&*t) {
-        return Verdict::Sound(0);
-    }
-    Verdict::Unsound
+    server_check::checked(&*t)
 }
