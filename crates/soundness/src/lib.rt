@@ -50,10 +50,10 @@ pub fn is_sound(t: &[u32]) -> bool
     if !header_sound(&*t) {
         return false;
     }
-    if t[SERVER] == 0 {
-        return plain_check::is_sound(&*t);
+    if t[SERVER] != 0 {
+        return last_queued(&*t) != UNSOUND;
     }
-    last_queued(&*t) != UNSOUND
+    plain_check::is_sound(&*t)
 }
 
 // Whether the table is sound and, if it is, the last slot of the queue: for a call that may queue timers behind it.

@@ -157,8 +157,7 @@ module _ (server : Bool) (t : List ℕ) where
       let none : All (λ i. waitOf t i ≡ 0) (along (nextOf t) f (firstQueued t)) =
       each Queue (λ i. waitOf t i ≡ 0)
       (λ y s. eqb-true (waitOf t (y .slot)) 0 (both (linkSound Queue t N (y .slot) (y .before)) (eqb (waitOf t (y .slot)) 0) s .1))
-      c f (start Queue t) e in
-      (
+      c f (start Queue t) e in (
         all-times (λ i. waitOf t i ≡ 0) (along (nextOf t) f (firstQueued t)) j none (met j a b k),
         stands-behind Queue c f (firstQueued t) 0 e j (met j a b k),
       )

@@ -56,10 +56,8 @@ pub fn header_sound(t: &[u32]) -> bool
     if per_second <= t[TICKS] {
         return false;
     }
-    if t[SPARE_7] != 0 {
-        return false;
-    }
-    if 1 < t[SERVER] {
+    // one test for both: the spare word is 0, and the server's is 0 or 1
+    if (t[SPARE_7] | (t[SERVER] >> 1)) != 0 {
         return false;
     }
     if t[CLOCK_SET] == 1 {
