@@ -5,17 +5,18 @@ use mathlib.Core.Path.{_≡_, refl, sym, ap, _∙_}
 use mathlib.Core.Bool.{Bool, true, false, cond}
 use mathlib.Core.List.{List, [], _∷_, _++_}
 use native.Mathlib.Omega.{arith}
+use lib.Dec.{leb}
+use borrow.Author.Tests.{leb-true}
+use Rattle.model.specs.Lists.{All}
 use Rattle.model.specs.declared.Chain.the-variants.{Queue}
 use Rattle.model.specs.State.{Link}
-use Rattle.model.specs.Words.{linksFrom, slotCount, firstQueued, waitOf, nextOf}
-use Rattle.model.specs.Sound.{sound}
-use Rattle.model.proofs.ListLaws.{cases}
+use Rattle.model.specs.Words.{along, linksFrom, links, slotCount, firstQueued, waitOf, nextOf}
+use Rattle.model.specs.Sound.{chainTests, chainSound, soundTests, sound}
+use Rattle.model.proofs.ListLaws.{all-at, every-all, all-map}
 use Rattle.walks.specs.Walks.{Stand}
 use Rattle.walks.proofs.NoSlotTwice.{links-first, links-zero}
 use Rattle.walks.proofs.OnePass.{Passing}
-use Rattle.server_check.specs.declared.Verdict.{Verdict}
-use Rattle.server_check.specs.declared.Verdict.the-variants.{Unsound, Sound}
-use Rattle.server_check.specs.Verdicts.{lastAfter, lastQueued, verdict}
+use Rattle.server_check.specs.LastSlots.{lastAfter, lastQueued, lastIfSound}
 
 -- the last of the links, where one stands at their end
 pub last-is : (p : ℕ) (ws : List Link) (w : Link) → lastAfter p (ws ++ (w ∷ [])) ≡ w .slot
@@ -58,16 +59,29 @@ pub record Checking (t : List ℕ) (n i : ℕ) (x y z : Stand) : Type 0 where
   pub pass : Passing true t n i x y z
   pub queue : Ending t n i (z .slot) (z .before)
 
-pub unsound : (t : List ℕ) → false ≡ sound t → Unsound ≡ verdict t
-unsound t e = ap (λ (b : Bool). cond b (Sound (lastQueued t)) Unsound) e
+pub unsound : (t : List ℕ) → false ≡ sound t → 256 ≡ lastIfSound t
+unsound t e = ap (λ (b : Bool). cond b (lastQueued t) 256) e
 
-pub sound-until : (t : List ℕ) (b : ℕ) → sound t ≡ true → lastQueued t ≡ b → Sound b ≡ verdict t
-sound-until t b e l = ap Sound (sym l) ∙ ap (λ (b : Bool). cond b (Sound (lastQueued t)) Unsound) (sym e)
+pub sound-until : (t : List ℕ) (b : ℕ) → sound t ≡ true → lastQueued t ≡ b → b ≡ lastIfSound t
+sound-until t b e l = sym l ∙ ap (λ (b : Bool). cond b (lastQueued t) 256) (sym e)
 
--- what a verdict says of the table's soundness
-abbrev pub isSound : Verdict → Bool
-isSound Unsound = false
-isSound (Sound last) = true
+-- ---- the last slot is one of the table's, or 0
 
-pub verdict-sound : (t : List ℕ) → isSound (verdict t) ≡ sound t
-verdict-sound t = cases (sound t) (λ e. rw e) (λ e. rw e)
+all-links : (P : ℕ → Type 0) (t : List ℕ) (f b i : ℕ) → All P (along (nextOf t) f i) → All (λ w. P (w .slot)) (linksFrom Queue t f b i)
+all-links P t zero b i h = tt
+all-links P t (suc f) b zero h = tt
+all-links P t (suc f) b (suc i) h = (h .0, all-links P t f (waitOf t (suc i)) (nextOf t (suc i)) (h .1))
+
+last-of : (n p : ℕ) (ws : List Link) → p ≤ n → All (λ w. w .slot ≤ n) ws → lastAfter p ws ≤ n
+last-of n p [] h a = h
+last-of n p (w ∷ ws) h a = last-of n (w .slot) ws (a .0) (a .1)
+
+pub last-in-table : (t : List ℕ) → sound t ≡ true → lastQueued t ≤ slotCount t
+unfolding sound chainSound
+last-in-table t e =
+    let n = slotCount t in
+    let slots = along (nextOf t) n (firstQueued t) in
+    let chain = all-at (soundTests t) e 4 in
+    let low = every-all (λ i. leb i n) slots (all-at (chainTests Queue t) chain 1) in
+    last-of n 0 (links Queue t) (omega arith)
+    (all-links (λ i. i ≤ n) t n 0 (firstQueued t) (all-map (λ i l. leb-true i n l) slots low))

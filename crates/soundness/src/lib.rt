@@ -31,10 +31,17 @@
 // `walks`; the pass in `plain_check` and `server_check`.
 ghost use mathlib.Core.Path.{_≡_};
 ghost use Rattle.model.specs.Sound.{sound};
-ghost use Rattle.server_check.specs.Verdicts.{verdict};
-pub use server_check::Verdict;
+ghost use Rattle.soundness.specs.Verdicts.{verdict};
+use server_check::UNSOUND;
+use server_check::last_queued;
 use table::*;
 use word_checks::header_sound;
+
+// The table is not sound; or it is, and this is the last slot of the queue, 0 if the queue is empty.
+pub enum Verdict {
+    Unsound,
+    Sound(u32),
+}
 
 // Whether the table is sound.
 pub fn is_sound(t: &[u32]) -> bool
@@ -43,24 +50,31 @@ pub fn is_sound(t: &[u32]) -> bool
     if !header_sound(&*t) {
         return false;
     }
-    if t[SERVER] == 0 {
-        return plain_check::is_sound(&*t);
+    if t[SERVER] != 0 {
+        return last_queued(&*t) != UNSOUND;
     }
-    server_check::is_sound(&*t)
+    plain_check::is_sound(&*t)
 }
 
-// Whether the table is sound and, if it is, the last slot of the queue, 0 if the queue is empty: for a call that may queue timers behind it.
+// Whether the table is sound and, if it is, the last slot of the queue: for a call that may queue timers behind it.
 pub fn checked(t: &[u32]) -> Verdict
     ensures { λ r. ⌜ r ≡ verdict (now (t .entry)) ⌝ }
 {
+    if t.len() < HEADER {
+        return Verdict::Unsound;
+    }
+    if t[SERVER] == 0 {
+        if is_sound(&*t) {
+            return Verdict::Sound(0);
+        }
+        return Verdict::Unsound;
+    }
     if !header_sound(&*t) {
         return Verdict::Unsound;
     }
-    if t[SERVER] != 0 {
-        return server_check::checked(&*t);
+    let last = last_queued(&*t);
+    if last == UNSOUND {
+        return Verdict::Unsound;
     }
-    if plain_check::is_sound(&*t) {
-        return Verdict::Sound(0);
-    }
-    Verdict::Unsound
+    Verdict::Sound(last)
 }

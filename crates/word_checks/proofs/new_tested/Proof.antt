@@ -1,4 +1,4 @@
--- `word_checks::new_tested` meets its contract: the name as the kind says, then the words that must be zero. Assumes nothing.
+-- `word_checks::new_tested` meets its contract: the name as the kind says, and the words that must be zero. Assumes nothing.
 use mathlib.Core.Path.{_∙_}
 use native.Mathlib.Omega.{arith}
 use borrow.Author.Tests.{eq-eqb, ne-eqb, lt-ltb, le-ltb}
@@ -9,40 +9,26 @@ use Rattle.word_checks.proofs.new_tested.Tie as tie
 get-requires : tie.Need-get-requires
 get-requires c κs = search needs
 
-returns : tie.Need-returns
-returns c =
-    let g = c .before .before .get in
-    rw (eq-eqb _ 0 (c .before .if1 .taken), ← g .ensures, ne-eqb (g .result) 0 (λ e. omega arith))
-
 is-blank-requires : tie.Need-is-blank-requires
 is-blank-requires c κs = search needs
 
+returns : tie.Need-returns
+returns c = c .is-blank .ensures ∙ rw (eq-eqb _ 0 (c .before .if1 .taken), c .before .before .get .ensures)
+
 returns-2 : tie.Need-returns-2
 returns-2 c =
-    let b = c .before .before in
-    c .is-blank .ensures ∙ rw (eq-eqb _ 0 (b .if1 .taken), ← b .before .get .ensures, eq-eqb (b .before .get .result) 0 (omega arith))
-
-returns-3 : tie.Need-returns-3
-returns-3 c =
     let g = c .before .before .get in
     rw (ne-eqb _ 0 (c .before .if1 .left), ← g .ensures, le-ltb 0 (g .result) (omega arith))
 
 is-blank-requires-2 : tie.Need-is-blank-requires-2
 is-blank-requires-2 c κs = search needs
 
-returns-4 : tie.Need-returns-4
-returns-4 c =
+returns-3 : tie.Need-returns-3
+returns-3 c =
     let b = c .before .before in
     c .is-blank2 .ensures ∙ rw (ne-eqb _ 0 (b .if1 .left), ← b .before .get .ensures, lt-ltb 0 (b .before .get .result) (omega arith))
 
 pub new-tested-spec : {M : Type 1} → statement M
 new-tested-spec =
     tie.close
-    (tie.spec
-    get-requires
-    returns
-    is-blank-requires
-    returns-2
-    returns-3
-    is-blank-requires-2
-    returns-4)
+    (tie.spec get-requires is-blank-requires returns returns-2 is-blank-requires-2 returns-3)

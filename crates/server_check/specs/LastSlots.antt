@@ -1,4 +1,4 @@
--- What the check says of a table: whether it is sound, and where its queue ends. Assumes nothing: these are definitions.
+-- Where the queue of a table ends, and the number by which the check says so. Assumes nothing: these are definitions.
 use Prim.Native.Nat.{ℕ}
 use mathlib.Core.Bool.{cond}
 use mathlib.Core.List.{List, [], _∷_}
@@ -6,8 +6,6 @@ use Rattle.model.specs.declared.Chain.the-variants.{Queue}
 use Rattle.model.specs.State.{Link}
 use Rattle.model.specs.Words.{links}
 use Rattle.model.specs.Sound.{sound}
-use Rattle.server_check.specs.declared.Verdict.{Verdict}
-use Rattle.server_check.specs.declared.Verdict.the-variants.{Unsound, Sound}
 
 -- the slot of the last link, p if there is none
 abbrev pub lastAfter : ℕ → List Link → ℕ
@@ -18,5 +16,6 @@ lastAfter p (w ∷ ws) = lastAfter (w .slot) ws
 abbrev pub lastQueued : List ℕ → ℕ
 lastQueued t = lastAfter 0 (links Queue t)
 
-abbrev pub verdict : List ℕ → Verdict
-verdict t = cond (sound t) (Sound (lastQueued t)) Unsound
+-- that, if the table is sound; else a number that no slot has
+abbrev pub lastIfSound : List ℕ → ℕ
+lastIfSound t = cond (sound t) (lastQueued t) 256

@@ -1,4 +1,4 @@
--- `server_check::checked` meets its contract. The loop's invariant: the table is sound just where what is left to check is right, with the three walks
+-- `server_check::last_queued` meets its contract. The loop's invariant: the table is sound just where what is left to check is right, with the three walks
 -- where they stand, and what is ahead of the queue's walk ends where the queue does. Each way through the loop takes one slot, and a step if it stands
 -- in a chain, off that; each early return is a part of it that fails. The measure is the slots ahead. Assumes nothing.
 use borrow.Author.Needs.{needs}
@@ -24,8 +24,8 @@ use Rattle.walks.specs.Walks.{standing, headsTested, stepTested}
 use Rattle.walks.proofs.StepTests.{in-ticks, in-dates, in-queue}
 use Rattle.walks.proofs.OnePass.{heads-false, begin, open-walk, last-date, inside, fewer, slot-fails, pass-other, tick-fails, pass-tick, date-fails, pass-date, queue-fails, pass-queue}
 use Rattle.server_check.proofs.LastSlot.{Checking, begin-queue, other-slot, next-queued, ended-queue, unsound, sound-until}
-use Rattle.server_check.proofs.checked.Statement.{statement}
-use Rattle.server_check.proofs.checked.Tie as tie
+use Rattle.server_check.proofs.last_queued.Statement.{statement}
+use Rattle.server_check.proofs.last_queued.Tie as tie
 
 abbrev Inv-loop : tie.InvT-loop
 Inv-loop t n tick-at₀ tick-before₀ ticks₀ date-at₀ date-before₀ date₀ queue-at₀ queue-before₀ i₀ tick-at tick-before ticks date-at date-before date queue-at queue-before i =
@@ -287,8 +287,8 @@ returns-8 c =
     (sym (last-date (inv .pass) (omega arith) (b .if9 .left)) ∙ passed (c .before .dates-ended .ensures) (c .if10 .left))
     (ended-queue (inv .queue) (or-none (l .tick-at) (l .queue-at) (b .if9 .left) .1))
 
-pub checked-spec : {M : Type 1} → statement M
-checked-spec =
+pub last-queued-spec : {M : Type 1} → statement M
+last-queued-spec =
     tie.close
     (tie.spec
     Inv-loop
