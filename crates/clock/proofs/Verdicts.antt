@@ -9,9 +9,10 @@ use Rattle.model.specs.Sound.{sound}
 use Rattle.model.proofs.ListLaws.{cases}
 use Rattle.links.specs.Places.{lastSlot}
 use Rattle.firing.specs.Lists.{EndsAt}
-use Rattle.server_check.specs.declared.Verdict.{Verdict}
-use Rattle.server_check.specs.declared.Verdict.the-variants.{Unsound, Sound}
-use Rattle.server_check.specs.Verdicts.{lastAfter, lastQueued, verdict}
+use Rattle.server_check.specs.LastSlots.{lastAfter, lastQueued}
+use Rattle.soundness.specs.declared.Verdict.{Verdict}
+use Rattle.soundness.specs.declared.Verdict.the-variants.{Unsound, Sound}
+use Rattle.soundness.specs.Verdicts.{verdict}
 
 abbrev saysSound : Verdict → Bool
 saysSound Unsound = false

@@ -18,7 +18,7 @@ use firing::step_clock;
 use going_on::ENTRY;
 use model::Chain;
 use model::Status;
-use server_check::Verdict;
+use soundness::Verdict;
 use soundness::checked;
 use soundness::is_sound;
 use table::*;
