@@ -130,7 +130,7 @@ fn put_previous(t: &mut [u32], n: u32, q: u32)
     if n == 0 {
         return;
     }
-    put(t, n, PREVIOUS, q);
+    put(t, n, PREVIOUS, q)
 }
 
 // Slot i, the first of its chain, leaves it. In the interval chain it has no ticks left, so that its follower's wait stays. Gives the slot that

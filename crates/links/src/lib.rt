@@ -128,7 +128,7 @@ fn stop_in(t: &mut [u32], chain: Chain, i: u32, idle: u32)
     ensures { λ _. ⌜ now (t .exit) ≡ writtenOver (stopped (read (now (t .entry))) i (idled (slotAt (read (now (t .entry)) .slots) i))) (now (t .entry)) ⌝ }
 {
     extract(t, chain, i);
-    put(t, i, KIND, idle);
+    put(t, i, KIND, idle)
 }
 
 // The first timer of the chain stops, as that kind; in the interval chain it is due. Gives the slot that followed it.
