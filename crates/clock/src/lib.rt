@@ -50,14 +50,9 @@ pub fn tick(table: &mut [u32], fired: &mut [u32]) -> Answer
     let ticking = fire(table, fired, Chain::ByTicks, 0, 0, end);
     step_clock(table);
     let second = table[SECONDS];
-    let dated = fire(
-        table,
-        fired,
-        Chain::ByDate,
-        second,
-        ticking.count,
-        ticking.end,
-    );
+    let listed = ticking.count;
+    let last = ticking.end;
+    let dated = fire(table, fired, Chain::ByDate, second, listed, last);
     Answer::Done(dated.count)
 }
 

@@ -95,7 +95,8 @@ pub fn serve(table: &mut [u32], served: &mut [u32]) -> Answer
     if served.len() < SERVED {
         return Answer::Refused(Status::ListTooShort);
     }
-    if table[SERVER] != 1 {
+    let initiated = table[SERVER];
+    if initiated != 1 {
         return Answer::Refused(Status::IncorrectState);
     }
     let i = table[FIRST_QUEUED];
