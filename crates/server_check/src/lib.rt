@@ -4,7 +4,7 @@ ghost use mathlib.Core.Bool.{true};
 ghost use Rattle.model.specs.Words.{serverInitiated};
 ghost use Rattle.model.specs.Sound.{headerSound};
 ghost use Rattle.server_check.specs.LastSlots.{lastIfSound};
-use server_word_checks::NOT_SOUND;
+use server_word_checks::WRONG;
 use server_word_checks::slot_place;
 use table::*;
 use walks::*;
@@ -34,7 +34,7 @@ pub fn last_queued(t: &[u32]) -> u32
     let mut i = 1;
     while i <= n {
         let place = slot_place(&*t, i);
-        if place == NOT_SOUND {
+        if place == WRONG {
             return UNSOUND;
         }
         i += 1;
@@ -60,6 +60,7 @@ pub fn last_queued(t: &[u32]) -> u32
             queue_at = get(&*t, queue_at, NEXT);
         }
     }
+    // one test for the ends of two walks
     if (tick_at | queue_at) != 0 {
         return UNSOUND;
     }

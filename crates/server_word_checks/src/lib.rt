@@ -15,7 +15,7 @@ use word_checks::new_tested;
 // words are wrong.
 pub const NOWHERE: usize = 0;
 
-pub const NOT_SOUND: usize = 1;
+pub const WRONG: usize = 1;
 
 // The place, if the slot's words are right.
 fn place_if(right: bool, place: usize) -> usize
@@ -24,7 +24,7 @@ fn place_if(right: bool, place: usize) -> usize
     if right {
         return place;
     }
-    NOT_SOUND
+    WRONG
 }
 
 // A timer of this kind waits in the dated chain.
@@ -48,7 +48,7 @@ fn idle_tested(t: &[u32], i: u32, dated: bool) -> bool
     (get(t, i, INTERVAL) == 0) == dated
 }
 
-// The place of slot i, if its words are right for its kind, 0 to 13; else NOT_SOUND. The wait and the links of a slot in a chain are left to the walks,
+// The place of slot i, if its words are right for its kind, 0 to 13; else WRONG. The wait and the links of a slot in a chain are left to the walks,
 // and so is the interval of one that waits for ticks.
 pub fn slot_place(t: &[u32], i: u32) -> usize
     requires { ⌜ 8 * i + 10 ≤ length (now t) ⌝ }
@@ -59,10 +59,10 @@ pub fn slot_place(t: &[u32], i: u32) -> usize
         return place_if(new_tested(t, i, kind), NOWHERE);
     }
     if get(t, i, NAME) < 1 {
-        return NOT_SOUND;
+        return WRONG;
     }
     if get(t, i, ROUTINE) < 1 {
-        return NOT_SOUND;
+        return WRONG;
     }
     if waits_for_ticks(kind) {
         return FIRST_TICKING;
@@ -82,5 +82,5 @@ pub fn slot_place(t: &[u32], i: u32) -> usize
     if kind <= SERVER_IDLE_DATE {
         return place_if(idle_tested(t, i, kind == SERVER_IDLE_DATE), NOWHERE);
     }
-    NOT_SOUND
+    WRONG
 }

@@ -6,7 +6,8 @@
 // the walk comes to, which is mostly not the slot that pays: its index is 1 to N, its previous is the slot that the walk comes from, and its wait fits
 // what the walk has reached. For the interval chain that is the ticks so far, the sum of the waits, which must be 1 at least and not above the slot's
 // interval; for the dated chain the date before, which must not be above the slot's; in the queue the slot is of kind 12 or 13 and its wait is 0. When
-// the pass is over, the walks must stand at 0, and the last date must not be past the last second.
+// the pass is over, the walks must stand at 0, and the last date must not be past the last second. The walk along the queue then comes from its last
+// slot, which `checked` hands on, so that timers are queued behind it without a search.
 //
 // Where the server is not initiated, kinds 8 to 13 do not occur, and the queue must be empty: the pass knows kinds 0 to 7 and two walks. So tables
 // without server timers do not pay for them.

@@ -266,7 +266,8 @@ begin server t e f apart =
       ticks = omega arith;
       left =
           after-heads server t true e f apart
-          ∙ ap₂ (λ (m d : ℕ). leftTested server t (slotCount t) 1 m (standing (firstTicking t) 0 0) (standing (firstDated t) 0 d) (standing (firstQueued t) 0 0))
+          ∙ ap₂
+          (λ (m d : ℕ). leftTested server t (slotCount t) 1 m (standing (firstTicking t) 0 0) (standing (firstDated t) 0 d) (standing (firstQueued t) 0 0))
           (let z : slotCount t ≡ slotCount t + 1 - 1 = omega arith in z) (sym (add-one (seconds t)));
     }
 

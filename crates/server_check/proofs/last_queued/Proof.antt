@@ -144,7 +144,8 @@ tick-tested-requires c κs = let pass = looped (c .before) .loop .inv .pass in (
 returns-3 : tie.Need-returns-3 Inv-loop μ-loop
 returns-3 c =
     let slot = c .before .before .before in
-    unsound _ (tick-fails (looped slot .loop .inv .pass) (in-range (slot .before .before)) (slot-right slot) (stands ByTicks slot (c .before .before .if3 .taken))
+    unsound _ (tick-fails (looped slot .loop .inv .pass) (in-range (slot .before .before)) (slot-right slot)
+    (stands ByTicks slot (c .before .before .if3 .taken))
     (failed {b = tick (looped slot)} (c .before .tick-tested .ensures) (c .if4 .taken)))
 
 get-requires : tie.Need-get-requires Inv-loop μ-loop
@@ -188,7 +189,8 @@ date-tested-requires c κs = looped (c .before .before) .loop .inv .pass .long
 returns-4 : tie.Need-returns-4 Inv-loop μ-loop
 returns-4 c =
     let slot = c .before .before .before .before in
-    unsound _ (date-fails (looped slot .loop .inv .pass) (in-range (slot .before .before)) (slot-right slot) (stands ByDate slot (c .before .before .if5 .taken))
+    unsound _ (date-fails (looped slot .loop .inv .pass) (in-range (slot .before .before)) (slot-right slot)
+    (stands ByDate slot (c .before .before .if5 .taken))
     (failed {b = date (looped slot)} (c .before .date-tested .ensures) (c .if6 .taken)))
 
 get-requires-3 : tie.Need-get-requires-3 Inv-loop μ-loop
@@ -223,7 +225,8 @@ queue-tested-requires c κs = looped (c .before .before .before) .loop .inv .pas
 returns-5 : tie.Need-returns-5 Inv-loop μ-loop
 returns-5 c =
     let slot = c .before .before .before .before .before in
-    unsound _ (queue-fails (looped slot .loop .inv .pass) (in-range (slot .before .before)) (slot-right slot) (stands Queue slot (c .before .before .if7 .taken))
+    unsound _ (queue-fails (looped slot .loop .inv .pass) (in-range (slot .before .before)) (slot-right slot)
+    (stands Queue slot (c .before .before .if7 .taken))
     (failed {b = queue (looped slot)} (c .before .queue-tested .ensures) (c .if8 .taken)))
 
 get-requires-5 : tie.Need-get-requires-5 Inv-loop μ-loop
@@ -256,7 +259,8 @@ loop-again-4 c =
     let inv = looped slot .loop .inv in
     let found = slot .before .slot-place .ensures in
     let none : (k : Chain) → waitsIn k (kindOf (turn (looped slot)) (looped slot .loop .i)) ≡ false =
-    in-no-chain _ _ (place-found slot) (no-head (place slot) (λ e. c .before .before .if3 .left (found ∙ e)) (λ e. c .before .if5 .left (found ∙ e)) (λ e. c .if7 .left (found ∙ e))) in
+    in-no-chain _ _ (place-found slot)
+    (no-head (place slot) (λ e. c .before .before .if3 .left (found ∙ e)) (λ e. c .before .if5 .left (found ∙ e)) (λ e. c .if7 .left (found ∙ e))) in
     record {
       pass = pass-other (inv .pass) (in-range (slot .before .before)) (slot-right slot) (none ByTicks) (none ByDate) (none Queue);
       queue = other-slot (inv .queue);

@@ -13,7 +13,9 @@ use Rattle.word_checks.proofs.header_sound.Tie as tie
 -- ---- the spare word and the server's
 
 abbrev words : tie.Else10 → List ℕ
-words c = c .before .before .before .before .before .before .before .before .before .before .before .before .before .before .before .before .before .before .args .t .now
+words c =
+    let b = c .before .before .before .before .before .before .before .before .before in
+    b .before .before .before .before .before .before .before .before .before .args .t .now
 
 spares : (c : tie.Else10) → (word (words c) 7 ≡ 0) × (serverInitiated (words c) ≤ 1)
 spares c = none-bits (word (words c) 7) (serverInitiated (words c)) (c .if10 .left)

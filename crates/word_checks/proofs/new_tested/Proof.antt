@@ -13,7 +13,7 @@ is-blank-requires : tie.Need-is-blank-requires
 is-blank-requires c κs = search needs
 
 returns : tie.Need-returns
-returns c = c .is-blank .ensures ∙ rw (eq-eqb _ 0 (c .before .if1 .taken), c .before .before .get .ensures)
+returns c = rw (eq-eqb _ 0 (c .before .if1 .taken), ← c .before .before .get .ensures) (c .is-blank .ensures)
 
 returns-2 : tie.Need-returns-2
 returns-2 c =
