@@ -18,6 +18,11 @@ unfoldable pub followerPut : List ℕ → ℕ → ℕ → ℕ → List ℕ
 followerPut t zero q v = t
 followerPut t (suc n) q v = set (set t (fieldWord (suc n) 7) q) (fieldWord (suc n) 3) v
 
+-- slot n, if there is one, gets previous q
+unfoldable pub previousPut : List ℕ → ℕ → ℕ → List ℕ
+previousPut t zero q = t
+previousPut t (suc n) q = set t (fieldWord (suc n) 7) q
+
 -- wait, next and previous of slot i
 unfoldable pub linksPut : List ℕ → ℕ → ℕ → ℕ → ℕ → List ℕ
 linksPut t i w n p = set (set (set t (fieldWord i 3) w) (fieldWord i 6) n) (fieldWord i 7) p
@@ -54,6 +59,13 @@ pub record Extractable (k : Chain) (t : List ℕ) (i : ℕ) : Type 0 where
   pub behind : 8 * nextOf t i + 10 ≤ length t
   pub before : 8 * previousOf t i + 10 ≤ length t
   pub fits : waitWithout k t (nextOf t i) (waitOf t i) < 4294967296
+
+-- it is the first, and has no ticks left where it waits for ticks
+pub record FirstExtractable (k : Chain) (t : List ℕ) (i : ℕ) : Type 0 where
+  pub here : 8 * i + 10 ≤ length t
+  pub behind : 8 * nextOf t i + 10 ≤ length t
+  pub first : previousOf t i ≡ 0
+  pub due : k ≡ ByTicks → waitOf t i ≡ 0
 
 -- slot i can be inserted behind slot p with wait w
 pub record Insertable (k : Chain) (t : List ℕ) (p i w : ℕ) : Type 0 where

@@ -5,9 +5,9 @@
 ghost use mathlib.Core.Path.{_≡_};
 ghost use Prim.Native.Nat.{_+_, _*_, _<_, _≤_};
 ghost use lib.ListN.{length, set};
-ghost use Rattle.model.specs.Words.{word, headWord, waitOf};
+ghost use Rattle.model.specs.Words.{word, headWord, waitOf, nextOf};
 ghost use Rattle.model.proofs.StateWords.{linkWord};
-ghost use Rattle.chains.specs.EditedWords.{followerPut, linksPut, waitWithout, waitBehind, extractedWords, insertedWords, Extractable, Insertable};
+ghost use Rattle.chains.specs.EditedWords.{followerPut, linksPut, waitWithout, waitBehind, previousPut, extractedWords, insertedWords, Extractable, FirstExtractable, Insertable};
 use model::Chain;
 use table::FIRST_DATED;
 use table::FIRST_QUEUED;
@@ -120,6 +120,30 @@ pub fn extract(t: &mut [u32], chain: Chain, i: u32)
     put_next(t, chain, p, n);
     put_follower(t, n, p, v);
     put_links(t, i, 0, 0, 0);
+}
+
+// Slot n, if there is one, gets previous q.
+fn put_previous(t: &mut [u32], n: u32, q: u32)
+    requires { ⌜ 8 * n + 10 ≤ length (now t) ⌝ }
+    ensures { λ _. ⌜ now (t .exit) ≡ previousPut (now (t .entry)) n q ⌝ }
+{
+    if n == 0 {
+        return;
+    }
+    put(t, n, PREVIOUS, q)
+}
+
+// Slot i, the first of its chain, leaves it. In the interval chain it has no ticks left, so that its follower's wait stays. Gives the slot that
+// followed it, which is the first then.
+pub fn extract_first(t: &mut [u32], chain: Chain, i: u32) -> u32
+    requires { ⌜ FirstExtractable chain (now t) i ⌝ }
+    ensures { λ r. ⌜ (now (t .exit) ≡ extractedWords chain (now (t .entry)) i) × (r ≡ nextOf (now (t .entry)) i) ⌝ }
+{
+    let n = get(t, i, NEXT);
+    put_next(t, chain, 0, n);
+    put_previous(t, n, 0);
+    put_links(t, i, 0, 0, 0);
+    n
 }
 
 // Slot i comes behind slot p, with wait w.

@@ -16,9 +16,10 @@ use firing::come_nearer;
 use firing::fire;
 use firing::step_clock;
 use going_on::ENTRY;
-use going_on::queue_end;
 use model::Chain;
 use model::Status;
+use soundness::Verdict;
+use soundness::checked;
 use soundness::is_sound;
 use table::*;
 
@@ -27,13 +28,13 @@ use table::*;
 fn open_list(table: &[u32], fired: &[u32]) -> Answer
     ensures { λ r. ⌜ Opens (onList (now (table .entry)) (now (fired .entry))) (Lent (now (table .entry)) (now (fired .entry))) r ⌝ }
 {
-    if !is_sound(table) {
+    let Verdict::Sound(end) = checked(table) else {
         return Answer::Refused(Status::NotSound);
-    }
+    };
     if fired.len() < ENTRY * (table[SLOT_COUNT] as usize) {
         return Answer::Refused(Status::ListTooShort);
     }
-    Answer::Done(queue_end(table))
+    Answer::Done(end)
 }
 
 // One tick: interval timers come nearer and those due fire; then the clock goes on and dated timers that are due fire. Answers how many. Server timers
@@ -49,7 +50,9 @@ pub fn tick(table: &mut [u32], fired: &mut [u32]) -> Answer
     let ticking = fire(table, fired, Chain::ByTicks, 0, 0, end);
     step_clock(table);
     let second = table[SECONDS];
-    let dated = fire(table, fired, Chain::ByDate, second, ticking.count, ticking.end);
+    let listed = ticking.count;
+    let last = ticking.end;
+    let dated = fire(table, fired, Chain::ByDate, second, listed, last);
     Answer::Done(dated.count)
 }
 

@@ -46,6 +46,9 @@ back-queue [] s = refl
 back-queue (i ∷ is) s =
     back-queue is (wentBack s i) ∙ cases (eqb (slotAt (s .slots) i .kind) 7) (λ e. rw e) (λ e. rw e)
 
+pub fires-list-length : {k : Chain} {t l : List ℕ} {limit from n end : ℕ} {t′ l′ : List ℕ} → Fires k t l limit from n end t′ l′ → length l′ ≡ length l
+fires-list-length f = ap length (f .entries) ∙ simp length-sets
+
 module _ {k : Chain} {t l : List ℕ} {limit from end : ℕ} (r : Room k t l limit from end) where
   abbrev ws : List Link
   ws = due k limit (read t)
@@ -56,9 +59,6 @@ module _ {k : Chain} {t l : List ℕ} {limit from end : ℕ} (r : Room k t l lim
 
   fewer : length ls ≤ length ws
   fewer = length-keep (λ w. not (forServer (kindAt (slotAt (read t .slots) (w .slot) .kind) .last))) ws
-
-  pub fires-list-length : {n end′ : ℕ} {t′ l′ : List ℕ} → Fires k t l limit from n end′ t′ l′ → length l′ ≡ length l
-  fires-list-length f = ap length (f .entries) ∙ simp length-sets
 
   -- after the first round
   module _ {c : Tally} {t₁ l₁ : List ℕ} (f : TakesOff k t l limit from false c t₁ l₁) where

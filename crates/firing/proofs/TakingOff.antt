@@ -16,7 +16,7 @@ use Rattle.model.specs.Kinds.{kinds, kindAt, sameChain, isIn, waitsIn, forServe
 use Rattle.model.specs.Lists.{keep, any, All, Sorted}
 use Rattle.model.specs.State.{Slot, Link, State, chainOf, slotAt, without, idBase, Fired, listed}
 use Rattle.model.specs.Directives.{stopped, idled, due, withoutServer}
-use Rattle.model.specs.Words.{word, headWord, slotFrom, read, writtenOver, kindOf, waitOf, routineOf, dataOf}
+use Rattle.model.specs.Words.{first, word, headWord, slotFrom, read, writtenOver, kindOf, waitOf, routineOf, dataOf, nextOf}
 use Rattle.model.specs.Outcome.{entryWords}
 use Rattle.model.proofs.ListLaws.{cases, clash, all, all-map, keep-none, keep-on}
 use Rattle.model.proofs.WellFormed.{timesIn, Holds}
@@ -32,7 +32,7 @@ use Rattle.going_on.specs.Queueing.{queued, Queues}
 use Rattle.firing.specs.Lists.{EndsAt, Room, ComesOff, CameOff, Turns, Tally, tallyOf, Turned, offOne, offAll, isPeriodicAt, dueListed, TakesOff}
 use Rattle.firing.proofs.TwoRounds.{isServerAt, toQueue, one-chain, one-memo, one-queue, one-chained, length-offAll, periodic-stopped}
 use Rattle.firing.proofs.Entries.{same-entries}
-use Rattle.firing.proofs.Heads.{Front, front, no-front}
+use Rattle.firing.proofs.Heads.{Front, front, no-front, head-of}
 
 -- of the kinds that wait one is periodic
 pub six-periodic : (k : Chain) (n : ℕ) → waitsIn k n ≡ true → eqb n 6 ≡ periodic (kindAt n .last)
@@ -65,9 +65,9 @@ not-above k apart n w = leb-true n 11 (ap (λ (b : Bool). cond b (leb n 11) true
 
 -- ---- none is due
 
-none-due : (k : Chain) (t l : List ℕ) (limit n end : ℕ) (b : Bool) → Holds t (read t) → EndsAt t end → All (λ w. limit < w .wait) (chainOf k (read t))
-    → TakesOff k t l limit n b (tallyOf n b end) t l
-none-due k t l limit n end b h last late =
+none-due : (k : Chain) (t l : List ℕ) (limit n end i : ℕ) (b : Bool) → Holds t (read t) → EndsAt t end → All (λ w. limit < w .wait) (chainOf k (read t))
+    → TakesOff k t l limit n b (tallyOf n b end i) t l
+none-due k t l limit n end i b h last late =
     let c = chainOf k (read t) in
     let none : due k limit (read t) ≡ [] = keep-none (λ w. leb (w .wait) limit) c (all-map (λ w p. lt-leb (w .wait) limit p) c late) in
     record {
@@ -127,6 +127,8 @@ module _ {k : Chain} {t l : List ℕ} {limit n end i : ℕ} (r : Room k t l limi
       in-table = in-table;
       is = refl;
       waits = waits-here;
+      first = a .previous;
+      due = λ ticking. omega (arith, a .wait, low, r .none-left ticking);
       fits = omega (arith, r .fits, ap length due-is);
       few = omega (arith, r .few, ap length due-is);
     };
@@ -191,7 +193,7 @@ module _ {k : Chain} {t l : List ℕ} {limit n end i : ℕ} (r : Room k t l limi
         ∙ ap (λ (d : List Link). writtenOver (offAll d (read t)) t) (sym due-next)
 
   -- it was queued, or listed
-  module _ {b : Bool} {c′ : Tally} {t′ l′ : List ℕ} (e : Turned t l i (tallyOf n b end) c′ t′ l′) where
+  module _ {b : Bool} {c′ : Tally} {t′ l′ : List ℕ} (e : Turned t l (tallyOf n b end i) c′ t′ l′) where
     abbrev kind : ℕ
     kind = kindOf t i
 
@@ -225,6 +227,12 @@ module _ {k : Chain} {t l : List ℕ} {limit n end i : ℕ} (r : Room k t l limi
         (λ f. ap (λ (c : Tally). c .end) (e .lists (leb-false 10 kind f) .1) ∙ r .last
         ∙ sym (ap (lastSlot 0) (queue-is ∙ ap (λ (c : Bool). read t .queue ++ cond c (toQueue j ∷ []) []) f ∙ append-nil (read t .queue))))
 
+    -- what followed it is the first
+    front-next : c′ .front ≡ word t′ (headWord k)
+    front-next =
+        cases (leb 10 kind) (λ f. ap (λ (c : Tally). c .front) (e .queues (leb-true 10 kind f) .2)) (λ f. ap (λ (c : Tally). c .front) (e .lists (leb-false 10 kind f) .1))
+        ∙ a .next ∙ sym (head-of k (next-holds (next off-is)) ∙ ap first (ap (chainOf k) (next-read (next off-is)) ∙ chain-after))
+
     pub room-next : Room k t′ l′ limit (c′ .count) (c′ .end)
     room-next =
         cases (leb 10 kind)
@@ -233,6 +241,7 @@ module _ {k : Chain} {t l : List ℕ} {limit n end i : ℕ} (r : Room k t l limi
         let count = ap (λ (c : Tally). c .count) (q .2) in
         record {
           holds = next-holds (next off-is);
+          none-left = r .none-left;
           waits = r .waits;
           last = last-next;
           fits = omega (arith, r .fits, ap length (due-next off-is), count, ap length (q .1));
@@ -244,6 +253,7 @@ module _ {k : Chain} {t l : List ℕ} {limit n end i : ℕ} (r : Room k t l limi
         let same = ap length (q .0 .entry) ∙ length-sets l (3 * n) ((idBase + i) ∷ routineOf t i ∷ dataOf t i ∷ []) in
         record {
           holds = next-holds (next off-is);
+          none-left = r .none-left;
           waits = r .waits;
           last = last-next;
           fits = omega (arith, r .fits, ap length (due-next off-is), count, same);
@@ -290,13 +300,13 @@ module _ {k : Chain} {t l : List ℕ} {limit n end i : ℕ} (r : Room k t l limi
 -- ---- the invariant
 
 -- what is left to do from the words t and l, with these counts, is what is left from the start
-pub record Taking (k : Chain) (t₀ l₀ : List ℕ) (limit from : ℕ) (t l : List ℕ) (c : Tally) (i : ℕ) : Type 0 where
+pub record Taking (k : Chain) (t₀ l₀ : List ℕ) (limit from : ℕ) (t l : List ℕ) (c : Tally) : Type 0 where
   pub room : Room k t l limit (c .count) (c .end)
-  pub here : i ≡ word t (headWord k)
+  pub here : c .front ≡ word t (headWord k)
   pub rest : (m : Tally) (t′ l′ : List ℕ) → TakesOff k t l limit (c .count) (c .periodic) m t′ l′ → TakesOff k t₀ l₀ limit from false m t′ l′
 
 module _ {k : Chain} {t l : List ℕ} {limit from end : ℕ} (r : Room k t l limit from end) where
-  pub taking-start : {i : ℕ} → i ≡ word t (headWord k) → Taking k t l limit from t l (tallyOf from false end) i
+  pub taking-start : {i : ℕ} → i ≡ word t (headWord k) → Taking k t l limit from t l (tallyOf from false end i)
   taking-start e = record { room = r; here = e; rest = λ m t′ l′ f. f }
 
   module _ {b : Bool} {c : Tally} {t′ l′ : List ℕ} (f : TakesOff k t l limit from b c t′ l′) where
@@ -308,23 +318,23 @@ module _ {k : Chain} {t l : List ℕ} {limit from end : ℕ} (r : Room k t l lim
     pub taken-list-length : length l′ ≡ length l
     taken-list-length = ap length (f .entries) ∙ simp length-sets
 
-module _ {k : Chain} {t₀ l₀ : List ℕ} {limit from : ℕ} {t l : List ℕ} {c : Tally} {i : ℕ} (f : Taking k t₀ l₀ limit from t l c i) where
+module _ {k : Chain} {t₀ l₀ : List ℕ} {limit from : ℕ} {t l : List ℕ} {c : Tally} (f : Taking k t₀ l₀ limit from t l c) where
   -- the chain is empty
-  pub taking-none : i ≡ 0 → TakesOff k t₀ l₀ limit from false c t l
+  pub taking-none : c .front ≡ 0 → TakesOff k t₀ l₀ limit from false c t l
   taking-none e =
-      f .rest c t l (none-due k t l limit (c .count) (c .end) (c .periodic) (f .room .holds) (f .room .last)
+      f .rest c t l (none-due k t l limit (c .count) (c .end) (c .front) (c .periodic) (f .room .holds) (f .room .last)
       (subst (All (λ w. limit < w .wait)) (sym (no-front k (f .room .holds) (f .here) e)) tt))
 
-  pub taking-front : i ≢ 0 → Front k t i
+  pub taking-front : c .front ≢ 0 → Front k t (c .front)
   taking-front some = front k (f .room .holds) (f .here) some
 
-  module _ (some : i ≢ 0) {w : ℕ} (is : w ≡ waitOf t i) where
+  module _ (some : c .front ≢ 0) {w : ℕ} (is : w ≡ waitOf t (c .front)) where
     -- the first link is not due, nor any behind it
     pub taking-later : limit < w → TakesOff k t₀ l₀ limit from false c t l
     taking-later p =
         let a = taking-front some in
         let rises : Sorted (λ v. v .wait) (a .entry ∷ a .back) = subst (Sorted (λ v. v .wait)) (a .whole) (f .room .holds .chained .rises k) in
-        f .rest c t l (none-due k t l limit (c .count) (c .end) (c .periodic) (f .room .holds) (f .room .last)
+        f .rest c t l (none-due k t l limit (c .count) (c .end) (c .front) (c .periodic) (f .room .holds) (f .room .last)
         (subst (All (λ v. limit < v .wait)) (sym (a .whole))
         (omega (arith, a .wait), all-map (λ v q. omega (arith, a .wait)) (a .back) (rises .0))))
 
@@ -333,17 +343,17 @@ module _ {k : Chain} {t₀ l₀ : List ℕ} {limit from : ℕ} {t l : List ℕ} 
       due-low : taking-front some .entry .wait ≤ limit
       due-low = omega (arith, taking-front some .wait)
 
-      pub taking-turn : Turns k t l i (c .count) (c .end)
+      pub taking-turn : Turns k t l (c .front) (c .count) (c .end)
       taking-turn = turns (f .room) (taking-front some) due-low
 
-      module _ {c′ : Tally} {t′ l′ : List ℕ} (e : Turned t l i c c′ t′ l′) where
+      module _ {c′ : Tally} {t′ l′ : List ℕ} (e : Turned t l c c′ t′ l′) where
         pub taking-less : length (chainOf k (read t′)) < length (chainOf k (read t))
         taking-less = less (f .room) (taking-front some) due-low e
 
-        pub taking-again : {j : ℕ} → j ≡ word t′ (headWord k) → Taking k t₀ l₀ limit from t′ l′ c′ j
-        taking-again h = record {
+        pub taking-again : Taking k t₀ l₀ limit from t′ l′ c′
+        taking-again = record {
           room = room-next (f .room) (taking-front some) due-low e;
-          here = h;
+          here = front-next (f .room) (taking-front some) due-low e;
           rest = λ m u v g. f .rest m u v (taken-before (f .room) (taking-front some) due-low e m u v g);
         }
 
@@ -359,11 +369,14 @@ module _ {k : Chain} {t l : List ℕ} {i n end : ℕ} (h : Turns k t l i n end) 
       waits = ap (waitsIn k) is ∙ h .comes .waits;
       low = ten;
       high = omega (arith, is, not-above k (h .waits) (kindOf t i) (h .comes .waits));
+      first = h .comes .first;
+      due = h .comes .due;
       last = h .last;
     }
 
-    pub turned-queue : (b : Bool) {t′ : List ℕ} → t′ ≡ writtenOver (queued (read t) i) t → Turned t l i (tallyOf n b end) (tallyOf n b i) t′ l
-    turned-queue b e = record { queues = λ _. (e, refl, refl); lists = λ less. absurd (omega (arith, is)) }
+    pub turned-queue : (b : Bool) {next : ℕ} {t′ : List ℕ} → (t′ ≡ writtenOver (queued (read t) i) t) × (next ≡ nextOf t i)
+        → Turned t l (tallyOf n b end i) (tallyOf n b i next) t′ l
+    turned-queue b e = record { queues = λ _. (e .0, refl, ap (tallyOf n b i) (e .1)); lists = λ less. absurd (omega (arith, is)) }
 
   -- any other is listed
   module _ (less : kind < 10) where
@@ -372,15 +385,17 @@ module _ {k : Chain} {t l : List ℕ} {i n end : ℕ} (h : Turns k t l i n end) 
       in-table = h .comes .in-table;
       is = is;
       waits = ap (waitsIn k) is ∙ h .comes .waits;
+      first = h .comes .first;
+      due = h .comes .due;
       fits = h .comes .fits;
       few = h .comes .few;
     }
 
-    pub turned-list : (b : Bool) {b′ : Bool} {t′ l′ : List ℕ} → CameOff t l i n t′ l′ → b′ ≡ (b || eqb (kindOf t i) 6)
-        → Turned t l i (tallyOf n b end) (tallyOf (n + 1) b′ end) t′ l′
+    pub turned-list : (b : Bool) {b′ : Bool} {next : ℕ} {t′ l′ : List ℕ} → CameOff t l i n next t′ l′ → b′ ≡ (b || eqb (kindOf t i) 6)
+        → Turned t l (tallyOf n b end i) (tallyOf (n + 1) b′ end next) t′ l′
     turned-list b e flag = record {
       queues = λ ten. absurd (omega (arith, is));
-      lists = λ _. (e, ap (λ (c : Bool). tallyOf (n + 1) c end) flag);
+      lists = λ _. (e, ap₂ (λ (c : Bool) (m : ℕ). tallyOf (n + 1) c end m) flag (e .followed));
     }
 
 -- whether one was periodic, when one more was listed

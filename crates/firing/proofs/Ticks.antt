@@ -16,7 +16,7 @@ use Rattle.model.specs.Directives.{due, fire, withoutServer, nearer, clockAt, c
 use Rattle.model.specs.Words.{read, writtenOver, slotCount, seconds, ticksInto}
 use Rattle.model.specs.Sound.{sound}
 use Rattle.model.specs.Outcome.{entryWords, written}
-use Rattle.model.proofs.ListLaws.{all, keep-on, keep-append, length-keep}
+use Rattle.model.proofs.ListLaws.{clash, all, keep-on, keep-append, length-keep}
 use Rattle.model.proofs.WellFormed.{Chained, Holds}
 use Rattle.model.proofs.Chains.{fits, fit-both}
 use Rattle.model.proofs.ReadBack.{slots-length}
@@ -69,13 +69,14 @@ module _ (t list : List ℕ) (ok : sound t ≡ true) (long : 3 * slotCount t ≤
   chained = sound-holds t ok .chained
 
   -- whatever is due of one chain has room behind n entries, where that chain and they are no more than the slots
-  room-for : {s : State} {u : List ℕ} → Next t s u → (k : Chain) → sameChain Queue k ≡ false → (limit n : ℕ) {last : ℕ} → last ≡ lastSlot 0 (s .queue)
+  room-for : {s : State} {u : List ℕ} → Next t s u → (k : Chain) → sameChain Queue k ≡ false → (limit n : ℕ) → (k ≡ ByTicks → limit ≡ 0) → {last : ℕ} → last ≡ lastSlot 0 (s .queue)
       → (l : List ℕ) → length l ≡ length list → n + length (chainOf k s) ≤ length (read t .slots) → Room k u l limit n last
-  room-for {s} {u} x k apart limit n at l e p =
+  room-for {s} {u} x k apart limit n none at l e p =
       let same = ap (λ (z : State). length (due k limit z)) (next-read x) in
       let some = length-keep (λ w. leb (w .wait) limit) (chainOf k s) in
       record {
         holds = next-holds x;
+        none-left = none;
         waits = apart;
         last = at ∙ ap (λ (z : State). lastSlot 0 (z .queue)) (sym (next-read x));
         fits = omega (arith, same, some, slots-length t, long);
@@ -97,8 +98,8 @@ module _ (t list : List ℕ) (ok : sound t ≡ true) (long : 3 * slotCount t ≤
     few-both : length (nearer (read t) .ticking) + length (read t .dated) ≤ length (read t .slots)
     few-both = fit-both (nearer (read t)) (chained-nearer (read t) chained)
 
-    pub nearer-room : (limit : ℕ) → Room ByTicks u₁ list limit 0 end
-    nearer-room limit = room-for after-nearer ByTicks refl limit 0 ends list refl (omega (arith, few-both))
+    pub nearer-room : (limit : ℕ) → limit ≡ 0 → Room ByTicks u₁ list limit 0 end
+    nearer-room limit none = room-for after-nearer ByTicks refl limit 0 (λ _. none) ends list refl (omega (arith, few-both))
 
     module _ {limit n last : ℕ} {u₂ list₂ : List ℕ} (f₁ : Fires ByTicks u₁ list limit 0 n last u₂ list₂) where
       after-first : Next t (fire ByTicks limit (nearer (read t))) u₂
@@ -120,8 +121,12 @@ module _ (t list : List ℕ) (ok : sound t ≡ true) (long : 3 * slotCount t ≤
 
       first-few : n ≤ length (nearer (read t) .ticking)
       first-few =
-          omega (arith, first-count, length-without (read t .slots) (due ByTicks limit (nearer (read t))),
-          length-keep (λ w. leb (w .wait) limit) (nearer (read t) .ticking))
+          omega (
+            arith,
+            first-count,
+            length-without (read t .slots) (due ByTicks limit (nearer (read t))),
+            length-keep (λ w. leb (w .wait) limit) (nearer (read t) .ticking),
+          )
 
       first-entries : list₂ ≡ sets list 0 (entryWords (map (listed (read t .slots)) (dueListed ByTicks limit (nearer (read t)))))
       first-entries =
@@ -151,8 +156,8 @@ module _ (t list : List ℕ) (ok : sound t ≡ true) (long : 3 * slotCount t ≤
 
         pub clock-room : (second : ℕ) → Room ByDate u₃ list₂ second n last
         clock-room second =
-            room-for after-clock ByDate refl second n (f₁ .last ∙ ap (λ (z : State). lastSlot 0 (z .queue)) (next-read after-first))
-            list₂ (fires-list-length (nearer-room limit) f₁)
+            room-for after-clock ByDate refl second n (λ e. clash (sym (ap (sameChain ByTicks) e))) (f₁ .last ∙ ap (λ (z : State). lastSlot 0 (z .queue)) (next-read after-first))
+            list₂ (fires-list-length f₁)
             (omega (arith, first-few, few-both, ap length later-dated))
 
         pub second-is : seconds u₃ ≡ clockStep (read t .clock) .second
@@ -169,8 +174,15 @@ module _ (t list : List ℕ) (ok : sound t ≡ true) (long : 3 * slotCount t ≤
             let all-due = withoutServer (s .slots) (due ByTicks limit (nearer s) ++ due ByDate second later) in
             let parts : all-due ≡ first ++ then = keep-append (λ w. not (isServerAt (s .slots) w)) (due ByTicks limit (nearer s)) (due ByDate second later) in
             let number : m ≡ length all-due =
-            omega (arith, f₃ .count, first-count, ap (λ (z : State). length (dueListed ByDate second z)) (next-read after-clock), ap length same,
-            ap length parts, length-append first then) in
+            omega (
+              arith,
+              f₃ .count,
+              first-count,
+              ap (λ (z : State). length (dueListed ByDate second z)) (next-read after-clock),
+              ap length same,
+              ap length parts,
+              length-append first then,
+            ) in
             let place : 3 * n ≡ 0 + length (entryWords (map g first)) =
             omega (arith, first-count, length-entries (map g first), length-map first g) in
             record {
@@ -184,8 +196,17 @@ module _ (t list : List ℕ) (ok : sound t ≡ true) (long : 3 * slotCount t ≤
                   ∙ sets-append list 0 (entryWords (map g first)) (entryWords (map g then))
                   ∙ ap (sets list 0) (sym (ap (λ (ws : List Link). entryWords (map g ws)) parts ∙ ap entryWords (map-append g first then)
                   ∙ entries-append (map g first) (map g then)))
-                  ∙ at-once all-due (omega (arith, first-few, first-count, length-without (s .slots) (due ByDate second later),
-                  length-keep (λ w. leb (w .wait) second) (later .dated), ap length later-dated, few-both, ap length parts, length-append first then));
+                  ∙ at-once all-due (omega (
+                    arith,
+                    first-few,
+                    first-count,
+                    length-without (s .slots) (due ByDate second later),
+                    length-keep (λ w. leb (w .wait) second) (later .dated),
+                    ap length later-dated,
+                    few-both,
+                    ap length parts,
+                    length-append first then,
+                  ));
             }
 
   -- ---- a set clock, whatever it fires then
@@ -199,8 +220,8 @@ module _ (t list : List ℕ) (ok : sound t ≡ true) (long : 3 * slotCount t ≤
     few-one : (k : Chain) → length (chainOf k (withClock (read t) (clockAt (read t .clock) second 0))) ≤ length (read t .slots)
     few-one = fits (withClock (read t) (clockAt (read t .clock) second 0)) (after-set .holds .chained)
 
-    pub moved-room : (k : Chain) → sameChain Queue k ≡ false → (limit : ℕ) → Room k u₁ list limit 0 end
-    moved-room k apart limit = room-for after-set k apart limit 0 ends list refl (omega (arith, few-one k))
+    pub moved-room : (k : Chain) → sameChain Queue k ≡ false → (limit : ℕ) → (k ≡ ByTicks → limit ≡ 0) → Room k u₁ list limit 0 end
+    moved-room k apart limit none = room-for after-set k apart limit 0 none ends list refl (omega (arith, few-one k))
 
     pub moved-is : {k : Chain} {limit m last : ℕ} {u₂ list₂ : List ℕ} → Fires k u₁ list limit 0 m last u₂ list₂
         → Leaves t list (movedTo k limit (read t) second) m u₂ list₂
@@ -213,6 +234,10 @@ module _ (t list : List ℕ) (ok : sound t ≡ true) (long : 3 * slotCount t ≤
           answer = λ j. number j ∷ [];
           entries = f .entries
               ∙ ap (λ (z : State). sets list (3 * 0) (entryWords (map (listed (z .slots)) (dueListed k limit z)))) (next-read after-set)
-              ∙ at-once (dueListed k limit later) (omega (arith, length-without (read t .slots) (due k limit later),
-              length-keep (λ w. leb (w .wait) limit) (chainOf k later), few-one k));
+              ∙ at-once (dueListed k limit later) (omega (
+                arith,
+                length-without (read t .slots) (due k limit later),
+                length-keep (λ w. leb (w .wait) limit) (chainOf k later),
+                few-one k,
+              ));
         }

@@ -7,12 +7,12 @@ use lib.ListN.{length}
 use lib.Dec.{eqb}
 use lib.Seq.{sets}
 use Rattle.model.specs.declared.Chain.{Chain}
-use Rattle.model.specs.declared.Chain.the-variants.{Queue}
+use Rattle.model.specs.declared.Chain.the-variants.{ByTicks, Queue}
 use Rattle.model.specs.Lists.{any}
 use Rattle.model.specs.Kinds.{kindAt, sameChain, waitsIn, forServer}
 use Rattle.model.specs.State.{Slot, Link, State, slotAt, idBase, listed}
 use Rattle.model.specs.Directives.{stopped, idled, due, fire, withoutServer}
-use Rattle.model.specs.Words.{read, writtenOver, kindOf, routineOf, dataOf}
+use Rattle.model.specs.Words.{read, writtenOver, kindOf, waitOf, routineOf, dataOf, nextOf, previousOf}
 use Rattle.model.specs.Outcome.{entryWords}
 use Rattle.model.proofs.KindLaws.{periodic}
 use Rattle.model.proofs.WellFormed.{Holds}
@@ -23,26 +23,31 @@ use Rattle.going_on.specs.Queueing.{queued}
 abbrev pub EndsAt : List ℕ → ℕ → Type 0
 EndsAt t end = end ≡ lastSlot 0 (read t .queue)
 
--- the chains are in order, chain k is not the queue, and the list has room for those due, written from entry `from` on
+-- the chains are in order, chain k is not the queue, and the list has room for those due, written from entry `from` on; of those that wait for ticks
+-- they are due with none left
 pub record Room (k : Chain) (t list : List ℕ) (limit from end : ℕ) : Type 0 where
   pub holds : Holds t (read t)
+  pub none-left : k ≡ ByTicks → limit ≡ 0
   pub waits : sameChain Queue k ≡ false
   pub last : EndsAt t end
   pub fits : 3 * (from + length (due k limit (read t))) ≤ length list
   pub few : from + length (due k limit (read t)) < 256
 
--- slot i, of that kind, waits in chain k, and the list has room for entry n
+-- slot i, of that kind, is the first of chain k and due, and the list has room for entry n
 pub record ComesOff (k : Chain) (t list : List ℕ) (i kind n : ℕ) : Type 0 where
   pub in-table : InTable t i
   pub is : kind ≡ kindOf t i
   pub waits : waitsIn k kind ≡ true
+  pub first : previousOf t i ≡ 0
+  pub due : k ≡ ByTicks → waitOf t i ≡ 0
   pub fits : 3 * n + 3 ≤ length list
   pub few : n < 256
 
--- slot i stopped, and was written as entry n
-pub record CameOff (t list : List ℕ) (i n : ℕ) (t′ list′ : List ℕ) : Type 0 where
+-- slot i stopped, and was written as entry n; `next` followed it
+pub record CameOff (t list : List ℕ) (i n next : ℕ) (t′ list′ : List ℕ) : Type 0 where
   pub table : t′ ≡ writtenOver (stopped (read t) i (idled (slotAt (read t .slots) i))) t
   pub entry : list′ ≡ sets list (3 * n) ((idBase + i) ∷ routineOf t i ∷ dataOf t i ∷ [])
+  pub followed : next ≡ nextOf t i
 
 -- slot i waits in chain k, which is not the queue, and is due
 pub record Turns (k : Chain) (t list : List ℕ) (i n end : ℕ) : Type 0 where
@@ -50,20 +55,22 @@ pub record Turns (k : Chain) (t list : List ℕ) (i n end : ℕ) : Type 0 where
   pub waits : sameChain Queue k ≡ false
   pub last : EndsAt t end
 
--- how many entries there are, whether one is of a periodic timer, and the last slot of the queue
+-- how many entries there are, whether one is of a periodic timer, the last slot of the queue, and the first of the chain
 pub record Tally : Type 0 where
   pub count : ℕ
   pub periodic : Bool
   pub end : ℕ
+  pub front : ℕ
 
-abbrev pub tallyOf : ℕ → Bool → ℕ → Tally
-tallyOf count periodic end = record { count = count; periodic = periodic; end = end }
+abbrev pub tallyOf : ℕ → Bool → ℕ → ℕ → Tally
+tallyOf count periodic end front = record { count = count; periodic = periodic; end = end; front = front }
 
--- a server timer went to the back of the queue, any other was listed
-pub record Turned (t list : List ℕ) (i : ℕ) (c c′ : Tally) (t′ list′ : List ℕ) : Type 0 where
-  pub queues : 10 ≤ kindOf t i → (t′ ≡ writtenOver (queued (read t) i) t) × (list′ ≡ list) × (c′ ≡ tallyOf (c .count) (c .periodic) i)
-  pub lists : kindOf t i < 10 → CameOff t list i (c .count) t′ list′
-      × (c′ ≡ tallyOf (c .count + 1) (c .periodic || eqb (kindOf t i) 6) (c .end))
+-- the front was a server timer and went to the back of the queue, or any other and was listed; what followed it is the front now
+pub record Turned (t list : List ℕ) (c c′ : Tally) (t′ list′ : List ℕ) : Type 0 where
+  pub queues : 10 ≤ kindOf t (c .front) → (t′ ≡ writtenOver (queued (read t) (c .front)) t) × (list′ ≡ list)
+      × (c′ ≡ tallyOf (c .count) (c .periodic) (c .front) (nextOf t (c .front)))
+  pub lists : kindOf t (c .front) < 10 → CameOff t list (c .front) (c .count) (c′ .front) t′ list′
+      × (c′ ≡ tallyOf (c .count + 1) (c .periodic || eqb (kindOf t (c .front)) 6) (c .end) (nextOf t (c .front)))
 
 -- the timer of slot i came off its chain: it is queued, where it is a server timer, else idle
 abbrev pub offOne : State → ℕ → State

@@ -17,7 +17,7 @@ use chains::follower;
 use going_on::ENTRY;
 use going_on::put_back;
 use going_on::queue;
-use links::stop_in;
+use links::stop_first;
 use links::stopped_kind;
 use model::Chain;
 use slots::ID_BASE;
@@ -46,39 +46,42 @@ fn put_entry(list: &mut [u32], n: u32, id: u32, routine: u32, user_data: u32)
     list[at + 2] = user_data;
 }
 
-// Slot i, of that kind, comes off the chain and is listed as entry n.
-pub fn come_off(t: &mut [u32], list: &mut [u32], chain: Chain, i: u32, kind: u32, n: u32)
+// Slot i, of that kind, the first of the chain and due, comes off and is listed as entry n. Gives the slot that followed it.
+pub fn come_off(t: &mut [u32], list: &mut [u32], chain: Chain, i: u32, kind: u32, n: u32) -> u32
     requires { ⌜ ComesOff chain (now t) (now list) i kind n ⌝ }
-    ensures { λ _. ⌜ CameOff (now (t .entry)) (now (list .entry)) i n (now (t .exit)) (now (list .exit)) ⌝ }
+    ensures { λ r. ⌜ CameOff (now (t .entry)) (now (list .entry)) i n r (now (t .exit)) (now (list .exit)) ⌝ }
 {
     let routine = get(t, i, ROUTINE);
     let user_data = get(t, i, DATA);
     put_entry(list, n, ID_BASE + i, routine, user_data);
-    stop_in(t, chain, i, stopped_kind(kind));
+    stop_first(t, chain, i, stopped_kind(kind))
 }
 
-// How many entries there are, whether the timer of one is periodic, and the last slot of the queue, 0 where that is empty.
+// How many entries there are, whether the timer of one is periodic, the last slot of the queue and the first of the chain, 0 where they are empty.
 struct Counts {
     count: u32,
     periodic: bool,
     end: u32,
+    front: u32,
 }
 
-// Slot i, which is due, comes off the chain: a server timer goes to the back of the queue, any other is listed.
-fn turn(t: &mut [u32], list: &mut [u32], chain: Chain, i: u32, counts: Counts) -> Counts
-    requires { ⌜ Turns chain (now t) (now list) i (counts .count) (counts .end) ⌝ }
-    ensures { λ r. ⌜ Turned (now (t .entry)) (now (list .entry)) i (tallyOf (counts .count) (counts .periodic) (counts .end)) (tallyOf (r .count) (r .periodic) (r .end)) (now (t .exit)) (now (list .exit)) ⌝ }
+// The front of the chain, which is due, comes off: a server timer goes to the back of the queue, any other is listed.
+fn turn(t: &mut [u32], list: &mut [u32], chain: Chain, counts: Counts) -> Counts
+    requires { ⌜ Turns chain (now t) (now list) (counts .front) (counts .count) (counts .end) ⌝ }
+    ensures { λ r. ⌜ Turned (now (t .entry)) (now (list .entry)) (tallyOf (counts .count) (counts .periodic) (counts .end) (counts .front)) (tallyOf (r .count) (r .periodic) (r .end) (r .front)) (now (t .exit)) (now (list .exit)) ⌝ }
 {
+    let i = counts.front;
     let kind = get(t, i, KIND);
     if SERVER_WAITING_TICKS <= kind {
-        queue(t, chain, i, kind, counts.end);
+        let next = queue(t, chain, i, kind, counts.end);
         return Counts {
             count: counts.count,
             periodic: counts.periodic,
             end: i,
+            front: next,
         };
     }
-    come_off(t, list, chain, i, kind, counts.count);
+    let next = come_off(t, list, chain, i, kind, counts.count);
     let mut periodic = counts.periodic;
     if kind == WAITING_EVERY {
         periodic = true;
@@ -87,30 +90,38 @@ fn turn(t: &mut [u32], list: &mut [u32], chain: Chain, i: u32, counts: Counts) -
         count: counts.count + 1,
         periodic: periodic,
         end: counts.end,
+        front: next,
     }
 }
 
 // The timers at the front of a chain whose wait is not above the limit come off it; those listed are the entries from `from` on.
-fn take_off(t: &mut [u32], list: &mut [u32], chain: Chain, limit: u32, from: u32, end: u32) -> Counts
+fn take_off(
+    t: &mut [u32],
+    list: &mut [u32],
+    chain: Chain,
+    limit: u32,
+    from: u32,
+    end: u32,
+) -> Counts
     requires { ⌜ Room chain (now t) (now list) limit from end ⌝ }
-    ensures { λ r. ⌜ TakesOff chain (now (t .entry)) (now (list .entry)) limit from false (tallyOf (r .count) (r .periodic) (r .end)) (now (t .exit)) (now (list .exit)) ⌝ }
+    ensures { λ r. ⌜ TakesOff chain (now (t .entry)) (now (list .entry)) limit from false (tallyOf (r .count) (r .periodic) (r .end) (r .front)) (now (t .exit)) (now (list .exit)) ⌝ }
 {
+    let first = follower(t, chain, 0);
     let mut counts = Counts {
         count: from,
         periodic: false,
         end: end,
+        front: first,
     };
-    let mut i = follower(t, chain, 0);
     loop {
-        if i == 0 {
+        if counts.front == 0 {
             break counts;
         }
-        let w = get(t, i, WAIT);
+        let w = get(t, counts.front, WAIT);
         if limit < w {
             break counts;
         }
-        counts = turn(t, list, chain, i, counts);
-        i = follower(t, chain, 0);
+        counts = turn(t, list, chain, counts);
     }
 }
 

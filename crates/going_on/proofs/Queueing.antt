@@ -17,12 +17,12 @@ use Rattle.model.specs.State.{Slot, Link, State, chainOf, slotAt}
 use Rattle.model.specs.Directives.{stopped, became, fired, idled, inserted}
 use Rattle.model.specs.Words.{writtenOver, read, kindOf}
 use Rattle.model.proofs.ListLaws.{cases}
-use Rattle.model.proofs.WellFormed.{Chained, Holds}
+use Rattle.model.proofs.WellFormed.{Chained}
 use Rattle.model.proofs.Chains.{without-none}
 use Rattle.model.proofs.ReadBack.{slot-read, over-over}
 use Rattle.model.proofs.Steps.{stopped-chain, chained-inserted, length-inserted}
 use Rattle.chains.specs.EditedWords.{fieldWord, insertedWords, Insertable}
-use Rattle.links.specs.Places.{lastSlot, upTo, At, Stops}
+use Rattle.links.specs.Places.{lastSlot, upTo, At, FirstStops}
 use Rattle.links.proofs.Extracting.{in-slots, times-kind}
 use Rattle.links.proofs.Inserting.{insertable, kind-words}
 use Rattle.links.proofs.NextState.{next-read}
@@ -67,10 +67,6 @@ pub place-last : (e : Link) (l : List Link) → All (λ w. w .wait ≡ 0) l → 
 place-last e [] h = refl
 place-last e (w ∷ ws) h = rw (le-leb (w .wait) (e .wait) (omega (arith, h .0))) (ap {B = List Link} (λ l. w ∷ l) (place-last e ws (h .1)))
 
--- the last slot is the one behind which a new one comes
-pub queue-last : {t : List ℕ} {p w : ℕ} → Holds t (read t) → At Queue (read t) 0 p w → p ≡ lastSlot 0 (read t .queue)
-queue-last {t} h at = at .slot ∙ ap (lastSlot 0) (up-to-all (read t .queue) (h .chained .within Queue))
-
 -- ---- a table
 
 module _ {k : Chain} (t : List ℕ) {i kind end : ℕ} (h : Queues k t i kind end) where
@@ -80,11 +76,15 @@ module _ {k : Chain} (t : List ℕ) {i kind end : ℕ} (h : Queues k t i kind en
   kind-here : slotAt (read t .slots) i .kind ≡ kind
   kind-here = ap (λ (x : Slot). x .kind) (slot-read t i (h .in-table .low) (h .in-table .high)) ∙ sym (h .is)
 
-  pub queue-stops : Stops t k i (kind - 2)
+  pub queue-stops : FirstStops t k i (kind - 2)
   queue-stops = record {
-    in-table = h .in-table;
-    waits = ap (waitsIn k) (sym (h .is)) ∙ h .waits;
-    kind = kinds .idle ∙ ap (λ (n : ℕ). kindAt n .whenStopped) (h .is);
+    stops = record {
+      in-table = h .in-table;
+      waits = ap (waitsIn k) (sym (h .is)) ∙ h .waits;
+      kind = kinds .idle ∙ ap (λ (n : ℕ). kindAt n .whenStopped) (h .is);
+    };
+    first = h .first;
+    due = h .due;
   }
 
   same-queue : chainOf Queue (stoppedAt t i) ≡ read t .queue

@@ -3,14 +3,12 @@ ghost use mathlib.Core.Path.{_≡_};
 ghost use Prim.Native.Nat.{_-_, _*_, _<_, _≤_};
 ghost use lib.ListN.{length};
 ghost use Rattle.model.specs.State.{idBase};
-ghost use Rattle.model.specs.Words.{word, read, writtenOver};
-ghost use Rattle.model.proofs.WellFormed.{Holds};
-ghost use Rattle.links.specs.Places.{lastSlot};
+ghost use Rattle.model.specs.Words.{word, read, writtenOver, nextOf};
 ghost use Rattle.going_on.specs.GoingBack.{waitsAgain, Again, backAll, slotsIn, Entries, Sought, GoesBack, WentBack};
 ghost use Rattle.going_on.specs.Queueing.{queued, Queues};
 use chains::insert;
 use links::place_from;
-use links::stop_in;
+use links::stop_first;
 use model::Chain;
 use slots::ID_BASE;
 use table::IDLE_EVERY;
@@ -102,21 +100,14 @@ pub fn put_back(t: &mut [u32], list: &[u32], from: u32, n: u32)
     }
 }
 
-// The last slot of the queue, 0 where it is empty.
-pub fn queue_end(t: &[u32]) -> u32
-    requires { ⌜ Holds (now t) (read (now t)) ⌝ }
-    ensures { λ r. ⌜ r ≡ lastSlot 0 (read (now (t .entry)) .queue) ⌝ }
-{
-    let place = place_from(t, Chain::Queue, 0, 0);
-    place.before
-}
-
-// A server timer of that kind, which waits in the chain, goes to the back of the queue, whose last slot is `end`, 0 where the queue is empty.
-pub fn queue(t: &mut [u32], chain: Chain, i: u32, kind: u32, end: u32)
+// A server timer of that kind, the first of the chain and due, goes to the back of the queue, whose last slot is `end`, 0 where the queue is empty.
+// Gives the slot that followed it in the chain.
+pub fn queue(t: &mut [u32], chain: Chain, i: u32, kind: u32, end: u32) -> u32
     requires { ⌜ Queues chain (now t) i kind end ⌝ }
-    ensures { λ _. ⌜ now (t .exit) ≡ writtenOver (queued (read (now (t .entry))) i) (now (t .entry)) ⌝ }
+    ensures { λ r. ⌜ (now (t .exit) ≡ writtenOver (queued (read (now (t .entry))) i) (now (t .entry))) × (r ≡ nextOf (now (t .entry)) i) ⌝ }
 {
-    stop_in(t, chain, i, kind - TO_IDLE);
+    let next = stop_first(t, chain, i, kind - TO_IDLE);
     insert(t, Chain::Queue, end, i, 0);
     put(t, i, KIND, kind + TO_QUEUED);
+    next
 }

@@ -5,9 +5,10 @@ use mathlib.Core.Bool.{true, false, cond}
 use mathlib.Core.List.{List, [], _∷_}
 use lib.Dec.{leb}
 use Rattle.model.specs.declared.Chain.{Chain}
+use Rattle.model.specs.declared.Chain.the-variants.{ByTicks}
 use Rattle.model.specs.Kinds.{kindAt, waitsIn}
 use Rattle.model.specs.State.{Link, State, chainOf, waitAt}
-use Rattle.model.specs.Words.{word, read, difference, accumulated, slotCount, kindOf}
+use Rattle.model.specs.Words.{word, read, difference, accumulated, slotCount, kindOf, waitOf, previousOf}
 use Rattle.model.proofs.WellFormed.{timesIn, Holds}
 
 -- the first links of a chain, whose wait is not above n, and the others
@@ -44,6 +45,12 @@ pub record Stops (t : List ℕ) (k : Chain) (i idle : ℕ) : Type 0 where
   pub in-table : InTable t i
   pub waits : waitsIn k (kindOf t i) ≡ true
   pub kind : idle ≡ kindAt (kindOf t i) .whenStopped
+
+-- it is the first there, and due where it waits for ticks
+pub record FirstStops (t : List ℕ) (k : Chain) (i idle : ℕ) : Type 0 where
+  pub stops : Stops t k i idle
+  pub first : previousOf t i ≡ 0
+  pub due : k ≡ ByTicks → waitOf t i ≡ 0
 
 -- it does not wait
 pub record IdleInTable (t : List ℕ) (i : ℕ) : Type 0 where

@@ -7,11 +7,12 @@ ghost use lib.ListN.{length};
 ghost use Rattle.model.specs.Kinds.{kindAt, chainFor, waitingKind, intervalIn, linked, waitsIn};
 ghost use Rattle.model.specs.State.{chainOf, slotAt, waitAt};
 ghost use Rattle.model.specs.Directives.{stored, stopped, idled, started};
-ghost use Rattle.model.specs.Words.{difference, accumulated, read, writtenOver, waitOf};
+ghost use Rattle.model.specs.Words.{difference, accumulated, read, writtenOver, waitOf, nextOf};
 ghost use Rattle.model.proofs.WellFormed.{Holds, timesIn};
-ghost use Rattle.links.specs.Places.{At, InTable, Stops, IdleInTable, From};
+ghost use Rattle.links.specs.Places.{At, InTable, Stops, FirstStops, IdleInTable, From};
 ghost use Rattle.links.specs.TimerWords.{timerPut};
 use chains::extract;
+use chains::extract_first;
 use chains::follower;
 use chains::insert;
 use model::Chain;
@@ -76,7 +77,7 @@ fn interval_in(chain: Chain, amount: u32) -> u32
     }
 }
 
-// The kind of a timer that stops; one that does not wait keeps its own.
+// The kind of a timer that stops; one that is in no chain keeps its own.
 pub fn stopped_kind(kind: u32) -> u32
     ensures { λ r. ⌜ r ≡ kindAt kind .whenStopped ⌝ }
 {
@@ -104,7 +105,7 @@ pub fn stopped_kind(kind: u32) -> u32
     kind
 }
 
-// The chain in which a timer of the kind waits.
+// The chain in which a timer of the kind stands.
 fn chain_in(kind: u32) -> Chain
     requires { ⌜ linked kind ≡ true ⌝ }
     ensures { λ r. ⌜ waitsIn r kind ≡ true ⌝ }
@@ -121,16 +122,26 @@ fn chain_in(kind: u32) -> Chain
     Chain::ByTicks
 }
 
-// A timer that waits in the chain stops, as that kind.
-pub fn stop_in(t: &mut [u32], chain: Chain, i: u32, idle: u32)
+// A timer that stands in the chain stops, as that kind.
+fn stop_in(t: &mut [u32], chain: Chain, i: u32, idle: u32)
     requires { ⌜ Stops (now t) chain i idle ⌝ }
     ensures { λ _. ⌜ now (t .exit) ≡ writtenOver (stopped (read (now (t .entry))) i (idled (slotAt (read (now (t .entry)) .slots) i))) (now (t .entry)) ⌝ }
 {
     extract(t, chain, i);
-    put(t, i, KIND, idle);
+    put(t, i, KIND, idle)
 }
 
-// A waiting timer becomes idle of its own kind; one that does not wait stays as it is.
+// The first timer of the chain stops, as that kind; in the interval chain it is due. Gives the slot that followed it.
+pub fn stop_first(t: &mut [u32], chain: Chain, i: u32, idle: u32) -> u32
+    requires { ⌜ FirstStops (now t) chain i idle ⌝ }
+    ensures { λ r. ⌜ (now (t .exit) ≡ writtenOver (stopped (read (now (t .entry))) i (idled (slotAt (read (now (t .entry)) .slots) i))) (now (t .entry))) × (r ≡ nextOf (now (t .entry)) i) ⌝ }
+{
+    let next = extract_first(t, chain, i);
+    put(t, i, KIND, idle);
+    next
+}
+
+// A waiting or queued timer becomes idle of its own kind; one in no chain stays as it is.
 pub fn stop(t: &mut [u32], i: u32)
     requires { ⌜ InTable (now t) i ⌝ }
     ensures { λ _. ⌜ now (t .exit) ≡ writtenOver (stopped (read (now (t .entry))) i (idled (slotAt (read (now (t .entry)) .slots) i))) (now (t .entry)) ⌝ }

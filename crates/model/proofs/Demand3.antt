@@ -10,14 +10,14 @@ use lib.ListN.{length, take}
 use lib.Dec.{eqb}
 use borrow.Author.Tests.{eqb-true, eqb-false, eq-eqb}
 use Rattle.model.specs.Lists.{keep, any, InOrder}
-use Rattle.model.specs.Calls.{Call, layOut, reset, serve, lentTo}
+use Rattle.model.specs.Calls.{Call, layOut, reset, ticksLeft, serve, lentTo}
 use Rattle.model.specs.Kinds.{Chain, ByTicks, ByDate, Queue, chainFor}
-use Rattle.model.specs.State.{State, names}
+use Rattle.model.specs.State.{State, waitAt, indexOf, names}
 use Rattle.model.specs.Directives.{laidOut, effect}
 use Rattle.model.specs.Words.{first, along, links, read, slotCount, previousOf}
 use Rattle.model.specs.Sound.{sound}
 use Rattle.model.specs.Outcome.{Outcome, statusOn, outcome}
-use Rattle.model.specs.History.{Start, Event, laidOutFor, changes, eventOf, eventsOn, movesClock, Placed, starts, ends, fires, inChain, ticksLeftOrDate, waiting, entryOf, entry, servesIn, IsQueue, serves, aheadAfter, takenOff}
+use Rattle.model.specs.History.{Start, Event, laidOutFor, changes, lastStart, eventOf, eventsOn, movesClock, Placed, starts, ends, fires, inChain, ticksLeftOrDate, waiting, entryOf, entry, servesIn, IsQueue, serves, aheadAfter, takenOff}
 use Rattle.model.specs.Demand.{after, acceptedIn, shown, Shows, Standing, Begins, Lists, Answers, HandsOut, eventsAfter, Demand3}
 use Rattle.model.proofs.ListLaws.{cases, or-left, or-right}
 use Rattle.model.proofs.Order.{order, order-in-order}
@@ -100,19 +100,27 @@ module _ (t : List ℕ) (h : List Event) (g : SoundAndAgreeing t h) (c : Call) w
         is-queue = q .1;
         entries = subst (Begins (outcome t c .list) (lentTo c)) (lists-due (read t) h (g .agrees) f t c st) (list-begins t (g .is-sound) c z);
         counted = λ moving. answer (length (l ++ m)) (or-left (movesClock e) (eqb (servesIn e) 1) moving) (many-fire (read t) h (g .agrees) f t c st moving);
-        served = λ one. answer (length (take 1 (q .0))) (or-right (movesClock e) (eqb (servesIn e) 1) (eq-eqb (servesIn e) 1 one))
+        served = λ list is.
+            let one : servesIn e ≡ 1 = ap (λ (d : Call). servesIn (eventOf h d)) is in
+            answer (length (take 1 (q .0))) (or-right (movesClock e) (eqb (servesIn e) 1) (eq-eqb (servesIn e) 1 one))
             (many-served (read t) h (g .agrees) f t c st one);
         fires-none = λ still. none-fires (read t) h (g .agrees) f t e still;
         few = omega (arith, few-fire (read t) h (g .agrees) f t c st, bound (read t) f c, slots-length t);
       }
 
   restarts-now : statusOn t c ≡ 0 → (id : ℕ) → c ≡ reset id
-      → (s : Start) × (eventOf h c ≡ changes id (some s)) × (s .id ≡ id) × (chainFor (s .mode) ≡ ByTicks)
+      → (s : Start) × (eventOf h c ≡ changes id (some s)) × (s .id ≡ id) × (chainFor (s .mode) ≡ ByTicks) × (lastStart id h ≡ some s)
   restarts-now e id is =
-      subst (λ (d : Call). statusOn t d ≡ 0 → (s : Start) × (eventOf h d ≡ changes id (some s)) × (s .id ≡ id) × (chainFor (s .mode) ≡ ByTicks)) (sym is)
+      subst (λ (d : Call). statusOn t d ≡ 0
+      → (s : Start) × (eventOf h d ≡ changes id (some s)) × (s .id ≡ id) × (chainFor (s .mode) ≡ ByTicks) × (lastStart id h ≡ some s)) (sym is)
       (λ z.
       let last = reset-last (read t) h (g .agrees) (sound-well-formed t (g .is-sound)) t id (sym (status-is t (reset id)) ∙ z) in
-      (_, ap (changes id) (last .2), refl, last .0)) e
+      (_, ap (changes id) (last .2), refl, last .0, last .2)) e
+
+  left-now : statusOn t c ≡ 0 → (id : ℕ) → c ≡ ticksLeft id → outcome t c .answer ≡ waitAt (indexOf id) (links ByTicks t) ∷ []
+  left-now e id is =
+      subst (λ (d : Call). statusOn t d ≡ 0 → outcome t d .answer ≡ waitAt (indexOf id) (links ByTicks t) ∷ []) (sym is)
+      (λ z. ap (λ (x : Outcome). x .answer) (outcome-accepted t (ticksLeft id) z)) e
 
   answers-now : Answers t h c (eventOf h c)
   answers-now = record {
@@ -122,6 +130,7 @@ module _ (t : List ℕ) (h : List Event) (g : SoundAndAgreeing t h) (c : Call) w
     lent-serve = λ list is. ap lentTo is;
     cancels = λ id is e. cancels-on t (g .is-sound) id c is (sym (outcome-status t c) ∙ e);
     restarts = λ id is e. restarts-now (sym (outcome-status t c) ∙ e) id is;
+    left = λ id is e. left-now (sym (outcome-status t c) ∙ e) id is;
     lasts = λ e id. lasts-on t (g .is-sound) c (sym (outcome-status t c) ∙ e) id;
     anew = λ name is e. anew-on t (g .is-sound) name c is (sym (outcome-status t c) ∙ e);
     size = table-size t (g .is-sound) c;
@@ -191,7 +200,7 @@ module _ (w : List ℕ) (n t : ℕ) (ok : outcome w (layOut n t) .status ≡ 0) 
       let first = comes-first in
       let a = answers-now u h (after-calls w n t ok (xs ++ ys)) (serve list) .lists accepted in
       let same : a .queue ≡ s ∷ first .0 = one-queue h (a .queue) (s ∷ first .0) (a .is-queue) (first .1) in (
-        a .served refl ∙ ap (λ (q : List Start). length (take 1 q) ∷ []) same,
+        a .served list refl ∙ ap (λ (q : List Start). length (take 1 q) ∷ []) same,
         subst (Begins (outcome u (serve list) .list) list)
             (ap₂ (λ (l : List Placed) (q : List Start). map entry l ++ map entryOf (take 1 q)) (a .fires-none refl) same) (a .entries),
       )

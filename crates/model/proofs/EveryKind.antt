@@ -265,29 +265,19 @@ changed i f v = set everyKind (2 + 8 * i + f) v
 
 abbrev pub damages : List (List ℕ)
 damages =
-    -- Word 7 is not zero. Word 8 is 0 where there are kinds from 8 on; or neither 0 nor 1.
-    set everyKind 7 1 ∷ set everyKind 8 0 ∷ set everyKind 8 2
-    -- Word 9 is 0, or names a waiting slot, one behind the front, an idle one, a free one, or none.
-    ∷ map (set everyKind 9) (0 ∷ 10 ∷ 12 ∷ 8 ∷ 14 ∷ 15 ∷ [])
-    -- Kind 14.
-    ++ map (λ i. changed i 0 14) (8 ∷ 10 ∷ 12 ∷ 14 ∷ [])
-    -- No name; no routine.
-    ++ map (λ i. changed i 1 0) (from 8 6) ++ map (λ i. changed i 4 0) (from 8 6)
-    -- No interval by interval, and one by date.
+    -- Word 7 is not zero. Word 8 is 0 where there are kinds from 8 on; or neither 0 nor 1. Word 9 is 0, or names a waiting, an idle or a free slot.
+    set everyKind 7 1 ∷ set everyKind 8 0 ∷ set everyKind 8 2 ∷ map (set everyKind 9) (0 ∷ 10 ∷ 8 ∷ 14 ∷ [])
+    -- Kind 14. No name; no routine. No interval by interval, and one by date.
+    ++ map (λ i. changed i 0 14) (8 ∷ 12 ∷ 14 ∷ []) ++ map (λ i. changed i 1 0) (from 8 6) ++ map (λ i. changed i 4 0) (from 8 6)
     ++ map (λ i. changed i 2 0) (8 ∷ 10 ∷ 12 ∷ []) ++ map (λ i. changed i 2 1) (9 ∷ 11 ∷ 13 ∷ [])
-    -- A wait in the queue; a wait or a link of an idle one.
-    ++ map (λ i. changed i 3 1) (8 ∷ 9 ∷ 12 ∷ 13 ∷ []) ++ map (λ i. changed i 6 12) (8 ∷ 9 ∷ []) ++ map (λ i. changed i 7 13) (8 ∷ 9 ∷ [])
-    -- Next of the front is 0, and 12 outside the queue; itself; a waiting one, an idle one, a free one, or no slot. Next of the end is the front, a loop;
-    -- itself; a waiting one.
-    ++ map (changed 13 6) (0 ∷ 13 ∷ 10 ∷ 8 ∷ 14 ∷ 15 ∷ []) ++ map (changed 12 6) (13 ∷ 12 ∷ 11 ∷ [])
-    -- Previous of the front is not 0, and of the end not the front.
-    ++ map (changed 13 7) (12 ∷ 13 ∷ []) ++ map (changed 12 7) (0 ∷ 12 ∷ 10 ∷ [])
-    -- 12 or 13 outside the queue: idle, or in another chain.
-    ++ changed 8 0 12 ∷ changed 9 0 13 ∷ changed 10 0 12 ∷ changed 11 0 13
-    -- Another kind in the queue.
-    ∷ map (changed 12 0) (8 ∷ 10 ∷ 13 ∷ []) ++ map (changed 13 0) (9 ∷ 11 ∷ 12 ∷ [])
-    -- The first wait is 0; ticks left exceed the interval. A date is not above word 3, is above the one behind it, or past the last second.
-    ++ map (changed 10 3) (0 ∷ 6 ∷ []) ++ map (changed 11 3) (378691201 ∷ 378691211 ∷ []) ++ changed 5 3 3534451200 ∷ []
+    -- A wait in the queue; a wait, next or previous of an idle one.
+    ++ map (λ i. changed i 3 1) (8 ∷ 9 ∷ 12 ∷ 13 ∷ []) ++ changed 8 6 12 ∷ changed 9 7 13
+    -- Next of the front is 0, and 12 outside the queue; or a waiting one. Next of the end is the front, a loop; or a waiting one. Previous of both.
+    ∷ map (changed 13 6) (0 ∷ 10 ∷ []) ++ map (changed 12 6) (13 ∷ 11 ∷ []) ++ changed 13 7 12 ∷ changed 12 7 0
+    -- 12 or 13 outside the queue, idle or in another chain; another kind in it.
+    ∷ changed 8 0 12 ∷ changed 9 0 13 ∷ changed 10 0 12 ∷ changed 11 0 13 ∷ changed 12 0 10 ∷ changed 13 0 11
+    -- The first wait is 0; ticks left exceed the interval. A date is not above word 3, or is above the one behind it.
+    ∷ map (changed 10 3) (0 ∷ 6 ∷ []) ++ map (changed 11 3) (378691201 ∷ 378691211 ∷ [])
 
 pub damaged : every (λ t. not (sound t)) damages ≡ true
 unfolding headerSound slotSound chainSound ticksSound datesSound queueSound sound

@@ -14,9 +14,9 @@ use Rattle.calendar.specs.declared.WallTime.{WallTime}
 use Rattle.calendar.specs.Calendar.{secondsOf}
 use Rattle.model.specs.Lists.{goesBehind, keep, any, place, All, Sorted, InOrder}
 use Rattle.model.specs.Calls.{Call, layOut, tick, setClock, lentTo}
-use Rattle.model.specs.Kinds.{Chain, ByTicks, ByDate, After, When, Every, chainFor, isPeriodic, isServer, sameChain}
+use Rattle.model.specs.Kinds.{Chain, ByTicks, ByDate, Queue, Mode, After, When, Every, ServerAfter, ServerWhen, chainFor, isPeriodic, isServer, sameChain}
 use Rattle.model.specs.State.{withClock, Fired}
-use Rattle.model.specs.History.{Start, startOf, Event, changes, oneTick, eventOf, clockSetTo, startIn, isTick, ticks, past, movesClock, Placed, withEvent, placed, starts, ends, wasEnded, isDue, wasDueIn, wasDue, comesDue, fires, goesBack, inTurn, inChain, ticksLeftOrDate, entryOf, entry, servesIn, IsQueue}
+use Rattle.model.specs.History.{Start, startOf, Event, changes, oneTick, eventOf, clockSetTo, startIn, isTick, ticks, past, movesClock, Placed, withEvent, placed, starts, ends, wasEnded, dueIn, isDue, wasDueIn, wasDue, comesDue, isQueued, fires, goesBack, inTurn, inChain, ticksLeftOrDate, entryOf, entry, servesIn, Queues, IsQueue}
 use Rattle.model.specs.Directives.{clockAt, effect}
 use Rattle.model.specs.Words.{writtenOver, links, read}
 use Rattle.model.specs.Sound.{sound}
@@ -26,7 +26,7 @@ use Rattle.model.proofs.ListLaws.{cases, clash, both, all-map, all-appe
 use Rattle.model.proofs.Order.{order, orderOn, all-orderOn, order-in-order, one-order}
 use Rattle.model.proofs.ReadBack.{links-is}
 use Rattle.model.proofs.HistoryLaws.{all-starts, fewer}
-use Rattle.model.proofs.KindLaws.{dated-not-again}
+use Rattle.model.proofs.KindLaws.{dated-not-again, not-queue}
 use Rattle.model.proofs.SoundHolds.{sound-holds}
 use Rattle.model.proofs.Steps.{fire-elsewhere, chained-with-clock}
 use Rattle.model.proofs.OutcomeLaws.{outcome-accepted, outcome-status}
@@ -101,29 +101,37 @@ startAt P id s Q = record { begun = s; before = changes id (some s) ∷ P; after
 abbrev pub forTicks : ℕ → ℕ → ℕ → ℕ → Start
 forTicks timer n r u = startOf timer After n r u
 
-module _ (P Q : List Event) (id timer n r u : ℕ) (some-ticks : 0 < n) where
+-- a start that is due once, at the nth tick after it
+module _ (m : Mode) (n : ℕ) (single : isPeriodic m ≡ false)
+    (nth : (e : Event) (before after : List Event) → dueIn m n e before after ≡ (isTick e && eqb (suc (ticks after)) n)) (some-ticks : 0 < n)
+    (P Q : List Event) (id timer r u : ℕ) where
+  abbrev s : Start
+  s = startOf timer m n r u
+
   -- it was not due while fewer than n ticks had passed
-  not-yet : (before after : List Event) → ticks after < n → wasDueIn (forTicks timer n r u) before after ≡ false
+  not-yet : (before after : List Event) → ticks after < n → wasDueIn s before after ≡ false
   not-yet before [] p = refl
   not-yet before (e ∷ after) p =
       cases (isTick e)
       (λ t.
       let q : suc (ticks after) < n = rw t at p in
-      rw (t, ne-eqb (suc (ticks after)) n (λ z. omega arith)) (not-yet before after (omega arith)))
-      (λ t. rw t (not-yet before after (rw t at p)))
+      rw (nth e before after, t, ne-eqb (suc (ticks after)) n (λ z. omega arith)) (not-yet before after (omega arith)))
+      (λ t. rw (nth e before after, t) (not-yet before after (rw t at p)))
 
-  pub at-nth-tick : (e : Event) → fires e (startAt P id (forTicks timer n r u) Q)
-      ≡ (not (any (ends timer) Q) && (isTick e && eqb (suc (ticks Q)) n))
-  at-nth-tick e =
-      and-true (comesDue e (startAt P id (forTicks timer n r u) Q))
-      ∙ cases (leb n (ticks Q))
+  due-at-nth : (e : Event) → comesDue e (startAt P id s Q) ≡ (not (any (ends timer) Q) && (isTick e && eqb (suc (ticks Q)) n))
+  due-at-nth e =
+      let B = changes id (some s) ∷ P in
+      let due : (b : Bool) → wasDueIn s B Q ≡ b → comesDue e (startAt P id s Q) ≡ ((not (any (ends timer) Q) && not b) && (isTick e && eqb (suc (ticks Q)) n)) =
+      λ b was.
+      ap₂ (λ (p c : Bool). (not (any (ends timer) Q) && (p || not (wasDueIn s B Q))) && c) single (nth e B Q)
+      ∙ ap (λ (c : Bool). (not (any (ends timer) Q) && not c) && (isTick e && eqb (suc (ticks Q)) n)) was in
+      cases (leb n (ticks Q))
       (λ f.
       let past : n ≤ ticks Q = leb-true n (ticks Q) f in
-      let was : wasDueIn (forTicks timer n r u) (changes id (some (forTicks timer n r u)) ∷ P) Q ≡ true =
-      cases (wasDueIn (forTicks timer n r u) (changes id (some (forTicks timer n r u)) ∷ P) Q) (λ g. g)
-      (λ g. absurd (omega (arith, fewer (forTicks timer n r u) (changes id (some (forTicks timer n r u)) ∷ P) Q (λ x l. refl) some-ticks g))) in
-      rw (was, ne-eqb (suc (ticks Q)) n (λ z. omega arith)) (never (any (ends timer) Q) (isTick e)))
-      (λ f. rw (not-yet (changes id (some (forTicks timer n r u)) ∷ P) Q (leb-false n (ticks Q) f)) (now (any (ends timer) Q) (isTick e && eqb (suc (ticks Q)) n)))
+      let was : wasDueIn s B Q ≡ true =
+      cases (wasDueIn s B Q) (λ g. g) (λ g. absurd (omega (arith, fewer s B Q (λ x l. nth x B l) some-ticks g))) in
+      due true was ∙ rw (ne-eqb (suc (ticks Q)) n (λ z. omega arith)) (never (any (ends timer) Q) (isTick e)))
+      (λ f. due false (not-yet B Q (leb-false n (ticks Q) f)) ∙ now (any (ends timer) Q) (isTick e && eqb (suc (ticks Q)) n))
     where
       never : (a b : Bool) → ((not a && false) && (b && false)) ≡ (not a && (b && false))
       never true b = refl
@@ -133,6 +141,19 @@ module _ (P Q : List Event) (id timer n r u : ℕ) (some-ticks : 0 < n) where
       now : (a b : Bool) → ((not a && true) && b) ≡ (not a && b)
       now true b = refl
       now false b = refl
+
+module _ (P Q : List Event) (id timer n r u : ℕ) (some-ticks : 0 < n) where
+  pub at-nth-tick : (e : Event) → fires e (startAt P id (forTicks timer n r u) Q)
+      ≡ (not (any (ends timer) Q) && (isTick e && eqb (suc (ticks Q)) n))
+  at-nth-tick e =
+      and-true (comesDue e (startAt P id (forTicks timer n r u) Q)) ∙ due-at-nth After n refl (λ e before after. refl) some-ticks P Q id timer r u e
+
+  -- a server start is queued there
+  pub queued-at-nth-tick : (e : Event) → isQueued e (startAt P id (startOf timer ServerAfter n r u) Q)
+      ≡ (not (any (ends timer) Q) && (isTick e && eqb (suc (ticks Q)) n))
+  queued-at-nth-tick e =
+      and-true (comesDue e (startAt P id (startOf timer ServerAfter n r u) Q))
+      ∙ due-at-nth ServerAfter n refl (λ e before after. refl) some-ticks P Q id timer r u e
 
 -- A start for a date fires in just the tick or set clock that leaves the clock at or past it, where none did so before and it was not ended.
 abbrev pub forDate : ℕ → ℕ → ℕ → ℕ → Start
@@ -151,6 +172,19 @@ at-date P Q id timer d r u e =
     ∙ ap (λ (b : Bool). (not (any (ends timer) Q) && not b) && (movesClock e && past d (e ∷ Q ++ B))) (was B Q)
   where
     was : (B Q : List Event) → wasDueIn (forDate timer d r u) B Q ≡ reached d B Q
+    was B [] = refl
+    was B (x ∷ Q) = ap (λ (b : Bool). (movesClock x && past d (x ∷ Q ++ B)) || b) (was B Q)
+
+-- a server start for a date is queued there
+pub queued-at-date : (P Q : List Event) (id timer d r u : ℕ) (e : Event) → let g = startAt P id (startOf timer ServerWhen d r u) Q in
+    isQueued e g ≡ ((not (any (ends timer) Q) && not (reached d (g .before) Q)) && (movesClock e && past d (e ∷ Q ++ g .before)))
+queued-at-date P Q id timer d r u e =
+    let s = startOf timer ServerWhen d r u in
+    let B = changes id (some s) ∷ P in
+    and-true (comesDue e (startAt P id s Q))
+    ∙ ap (λ (b : Bool). (not (any (ends timer) Q) && not b) && (movesClock e && past d (e ∷ Q ++ B))) (was B Q)
+  where
+    was : (B Q : List Event) → wasDueIn (startOf timer ServerWhen d r u) B Q ≡ reached d B Q
     was B [] = refl
     was B (x ∷ Q) = ap (λ (b : Bool). (movesClock x && past d (x ∷ Q ++ B)) || b) (was B Q)
 
@@ -197,18 +231,37 @@ start-placed P (x ∷ Q) id s =
     Memᴰ·append-left (placed (startIn x) (x ∷ Q ++ (changes id (some s) ∷ P)))
     (Memᴰ·map (withEvent x) (mem-turned x (starts (Q ++ (changes id (some s) ∷ P))) (start-placed P Q id s)))
 
+-- a start that passes a test is in the list, in firing order, of those of its chain that do
+in-its-list : (test : Placed → Bool) (k : Chain) (P Q : List Event) (id : ℕ) (s : Start) (l : List Placed) → sameChain k (chainFor (s .mode)) ≡ true
+    → test (startAt P id s Q) ≡ true → InOrder ticksLeftOrDate (keep (inChain k) (keep test (starts (Q ++ (changes id (some s) ∷ P))))) l
+    → List·Memᴰ (startAt P id s Q) l
+in-its-list test k P Q id s l here f o =
+    subst (λ (m : List Placed). List·Memᴰ (startAt P id s Q) m)
+    (one-order ticksLeftOrDate (keep (inChain k) S) (order ticksLeftOrDate (keep (inChain k) S)) l (order-in-order ticksLeftOrDate (keep (inChain k) S)) o)
+    (mem-order ticksLeftOrDate [] (keep (inChain k) S) (mem-keep (inChain k) {x = startAt P id s Q} S here
+    (mem-keep test {x = startAt P id s Q} (starts (Q ++ (changes id (some s) ∷ P))) f (start-placed P Q id s))))
+  where
+    S : List Placed
+    S = keep test (starts (Q ++ (changes id (some s) ∷ P)))
+
 -- a start that fires in e is in the list that demand 3 asks for
 pub fires-listed : (k : Chain) (P Q : List Event) (id : ℕ) (s : Start) (e : Event) (l : List Placed) → sameChain k (chainFor (s .mode)) ≡ true
     → fires e (startAt P id s Q) ≡ true → InOrder ticksLeftOrDate (keep (inChain k) (keep (fires e) (starts (Q ++ (changes id (some s) ∷ P))))) l
     → List·Memᴰ (startAt P id s Q) l
-fires-listed k P Q id s e l here f o =
-    subst (λ (m : List Placed). List·Memᴰ (startAt P id s Q) m)
-    (one-order ticksLeftOrDate (keep (inChain k) S) (order ticksLeftOrDate (keep (inChain k) S)) l (order-in-order ticksLeftOrDate (keep (inChain k) S)) o)
-    (mem-order ticksLeftOrDate [] (keep (inChain k) S) (mem-keep (inChain k) {x = startAt P id s Q} S here
-    (mem-keep (fires e) {x = startAt P id s Q} (starts (Q ++ (changes id (some s) ∷ P))) f (start-placed P Q id s))))
+fires-listed k P Q id s e = in-its-list (fires e) k P Q id s
+
+-- one that is queued in e is among those that go to the back of the queue
+pub goes-to-back : (P Q : List Event) (id : ℕ) (s : Start) (e : Event) (new : List Start) → isQueued e (startAt P id s Q) ≡ true
+    → Queues (Q ++ (changes id (some s) ∷ P)) e new → List·Memᴰ s new
+goes-to-back P Q id s e new f q =
+    subst (List·Memᴰ s) (sym (q .is)) (Memᴰ·map (λ g. g .begun) (by-chain (chainFor (s .mode)) refl))
   where
-    S : List Placed
-    S = keep (fires e) (starts (Q ++ (changes id (some s) ∷ P)))
+    by-chain : (k : Chain) → chainFor (s .mode) ≡ k → List·Memᴰ (startAt P id s Q) (q .ticking ++ q .dated)
+    by-chain ByTicks is =
+        Memᴰ·append-left (q .dated) (in-its-list (isQueued e) ByTicks P Q id s (q .ticking) (ap (sameChain ByTicks) is) f (q .ticking-order))
+    by-chain ByDate is =
+        Memᴰ·append-right (q .ticking) (in-its-list (isQueued e) ByDate P Q id s (q .dated) (ap (sameChain ByDate) is) f (q .dated-order))
+    by-chain Queue is = clash (sym (ap (sameChain Queue) is) ∙ not-queue (s .mode))
 
 -- ---- 5. A set clock changes no start's ticks left.
 

@@ -4,7 +4,7 @@ use Prim.Native.Nat.{ℕ, _+_, _*_}
 use mathlib.Core.Bool.{true, false}
 use mathlib.Core.Option.{none, some}
 use mathlib.Core.List.{List, [], _∷_, _++_, map}
-use lib.ListN.{replicate}
+use lib.ListN.{replicate, set}
 use Rattle.calendar.specs.declared.WallTime.{WallTime}
 use Rattle.calendar.specs.Calendar.{monthsOf, years, valid, secondsOf}
 use Rattle.model.specs.Lists.{keep, InOrder}
@@ -14,10 +14,11 @@ use Rattle.model.specs.State.{idBase}
 use Rattle.model.specs.Sound.{headerSound, slotSound, chainSound, ticksSound, datesSound, queueSound, sound}
 use Rattle.model.specs.Outcome.{statusOn, outcome}
 use Rattle.model.specs.History.{Start, startOf, Event, eventsOn, laidOutFor, changes, deletes, oneTick, clockSetTo, initiates, servesFront, Placed, starts, waits, fires, isQueued, inChain, ticksLeftOrDate, Queues, leftInQueue, IsQueue, isInitiated, serves, takenOff}
+use Rattle.model.specs.Demand.{after, HandsOut, eventsAfter, Demanded}
 use Rattle.model.proofs.Order.{order, order-in-order}
 use Rattle.model.proofs.QueueLaws.{queue-calm, queue-moved}
 use Rattle.model.proofs.Cases.{Case, calls, computed, lists, date, nine, unlent}
-use Rattle.model.proofs.WorkedCases.{one, two, three, no, yes}
+use Rattle.model.proofs.WorkedCases.{one, two, three, six, no, yes}
 
 abbrev third : ℕ
 third = 0x12010003
@@ -240,6 +241,16 @@ pub taken-off : map tried takenCases ≡ takenCases
 unfolding monthsOf years valid secondsOf headerSound slotSound chainSound ticksSound datesSound queueSound sound statusOn outcome
 taken-off = refl
 
+-- ---- the queue's links
+
+-- The queue 2, 3, 1 is sound with word 9, and each next and previous, as they are, and with no other number up to 4.
+abbrev soundWith : ℕ → List ℕ
+soundWith i = keep (λ v. sound (set mixed i v)) (0 ∷ 1 ∷ 2 ∷ 3 ∷ 4 ∷ [])
+
+pub only-these-links : map soundWith (9 ∷ 16 ∷ 17 ∷ 24 ∷ 25 ∷ 32 ∷ 33 ∷ []) ≡ (2 ∷ []) ∷ (0 ∷ []) ∷ (3 ∷ []) ∷ (3 ∷ []) ∷ (0 ∷ []) ∷ (1 ∷ []) ∷ (2 ∷ []) ∷ []
+unfolding headerSound slotSound chainSound ticksSound datesSound queueSound sound
+only-these-links = refl
+
 -- ---- the words of demand 3
 
 -- Interval server timers x and z, for one tick, a dated one, d, for second 5, and one that fires, o. It is second 4, with one tick a second.
@@ -282,7 +293,7 @@ pub fires-or-queued : map (λ e. idsOf (keep (fires e) (starts before)) ∷ idsO
     ≡ ((third ∷ []) ∷ (two ∷ one ∷ []) ∷ []) ∷ ([] ∷ (two ∷ []) ∷ []) ∷ ([] ∷ [] ∷ []) ∷ []
 fires-or-queued = refl
 
--- They wait until then, by their ticks left or dates, and not after it; nothing is due in a second tick.
+-- They wait until then, by their ticks left or dates, and not after it: in a second tick only z is due, which was started between the two.
 pub queued-once : map (λ h. idsOf (keep waits (starts h)) ∷ map ticksLeftOrDate (keep waits (starts h)) ∷ idsOf (keep (isQueued oneTick) (starts h)) ∷ [])
     (before ∷ (changes fourth (some z) ∷ oneTick ∷ before) ∷ [])
     ≡ ((two ∷ third ∷ one ∷ []) ∷ (5 ∷ 1 ∷ 1 ∷ []) ∷ (two ∷ one ∷ []) ∷ []) ∷ ((fourth ∷ []) ∷ (1 ∷ []) ∷ (fourth ∷ []) ∷ []) ∷ []
@@ -345,3 +356,26 @@ pub left-in-queue : map (λ e. map (λ (s : Start). s .id) (leftInQueue e (x ∷
     (servesFront ∷ changes two none ∷ deletes one ∷ laidOutFor 10 ∷ oneTick ∷ initiates ∷ changes fourth (some z) ∷ [])
     ≡ (two ∷ []) ∷ (one ∷ []) ∷ (two ∷ []) ∷ [] ∷ (one ∷ two ∷ []) ∷ (one ∷ two ∷ []) ∷ (one ∷ two ∷ []) ∷ []
 left-in-queue = refl
+
+-- Two timers are queued. The second is handed out by the second serve after that; by the first where the one ahead of it is cancelled.
+abbrev slice : List ℕ
+slice = replicate 26 0
+
+abbrev untilQueued : List Call
+untilQueued = create 1 ∷ create 2 ∷ initiateServer ∷ serverFireAfter one 1 7 70 ∷ serverFireAfter two 1 8 80 ∷ tick six ∷ []
+
+abbrev ahead : Start
+ahead = startOf one ServerAfter 1 7 70
+
+abbrev second : Start
+second = startOf two ServerAfter 1 8 80
+
+pub by-second-serve : Demanded slice 2 10 (untilQueued ++ (serve three ∷ serve three ∷ [])) → IsQueue (eventsAfter slice (layOut 2 10 ∷ untilQueued)) (ahead ∷ second ∷ [])
+    → HandsOut (after slice (layOut 2 10 ∷ untilQueued ++ (serve three ∷ []))) three second
+unfolding headerSound slotSound chainSound ticksSound datesSound queueSound sound statusOn outcome
+by-second-serve demanded queue = demanded .in-turn untilQueued (serve three ∷ []) [] three refl (ahead ∷ []) [] second queue (servesFront ∷ []) refl refl refl
+
+pub one-sooner : Demanded slice 2 10 (untilQueued ++ (cancel one ∷ serve three ∷ [])) → IsQueue (eventsAfter slice (layOut 2 10 ∷ untilQueued)) (ahead ∷ second ∷ [])
+    → HandsOut (after slice (layOut 2 10 ∷ untilQueued ++ (cancel one ∷ []))) three second
+unfolding headerSound slotSound chainSound ticksSound datesSound queueSound sound statusOn outcome
+one-sooner demanded queue = demanded .in-turn untilQueued (cancel one ∷ []) [] three refl (ahead ∷ []) [] second queue (changes one none ∷ []) refl refl refl

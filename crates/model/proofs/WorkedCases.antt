@@ -24,7 +24,7 @@ two = 0x12010002
 abbrev pub three : List ℕ
 three = replicate 3 99
 
-abbrev six : List ℕ
+abbrev pub six : List ℕ
 six = replicate 6 99
 
 -- a refusal, with the zero beside it

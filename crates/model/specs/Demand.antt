@@ -8,13 +8,13 @@ use lib.ListN.{length, getD, take, replicate}
 use lib.Dec.{eqb}
 use Rattle.calendar.specs.declared.WallTime.{WallTime}
 use Rattle.model.specs.Lists.{keep, any, count, InOrder}
-use Rattle.model.specs.Calls.{Call, layOut, create, cancel, reset, tick, setClock, serve, lentTo, answerCount}
+use Rattle.model.specs.Calls.{Call, layOut, create, cancel, reset, ticksLeft, tick, setClock, serve, lentTo, answerCount}
 use Rattle.model.specs.Kinds.{Chain, ByTicks, ByDate, Queue, kindAt, chainFor}
-use Rattle.model.specs.State.{Slot, Link, slotAt, indexOf, names, Fired, listed}
+use Rattle.model.specs.State.{Slot, Link, slotAt, waitAt, indexOf, names, Fired, listed}
 use Rattle.model.specs.Words.{first, sumOf, word, along, links, read, slotCount, ticksPerSecond, clockSet, seconds, ticksInto, serverInitiated, previousOf}
 use Rattle.model.specs.Sound.{sound}
 use Rattle.model.specs.Outcome.{outcome}
-use Rattle.model.specs.History.{Start, Event, changes, lastsAfter, Placed, Waiting, eventOf, eventsOn, perSecond, clockAfter, movesClock, starts, waits, fires, inChain, ticksLeftOrDate, waiting, entryOf, entry, isInitiated, servesIn, IsQueue, queuedAs, ends, serves, takenOff}
+use Rattle.model.specs.History.{Start, Event, changes, lastStart, lastsAfter, Placed, Waiting, eventOf, eventsOn, perSecond, clockAfter, movesClock, starts, waits, fires, inChain, ticksLeftOrDate, waiting, entryOf, entry, isInitiated, servesIn, IsQueue, queuedAs, ends, serves, takenOff}
 
 -- Each call gets the table that the last one left.
 abbrev pub after : List ℕ → List Call → List ℕ
@@ -78,7 +78,7 @@ pub record Lists (t : List ℕ) (es : List Event) (c : Call) (e : Event) : Type 
   pub is-queue : IsQueue es queue
   pub entries : Begins (outcome t c .list) (lentTo c) (map entry (ticking ++ dated) ++ map entryOf (take (servesIn e) queue))
   pub counted : movesClock e ≡ true → outcome t c .answer ≡ length (ticking ++ dated) ∷ []
-  pub served : servesIn e ≡ 1 → outcome t c .answer ≡ length (take 1 queue) ∷ []
+  pub served : (list : List ℕ) → c ≡ serve list → outcome t c .answer ≡ length (take 1 queue) ∷ []
   pub fires-none : movesClock e ≡ false → ticking ++ dated ≡ []
   pub few : length (ticking ++ dated) ≤ slotCount t
 
@@ -96,9 +96,11 @@ pub record Answers (t : List ℕ) (es : List Event) (c : Call) (e : Event) : Typ
   -- A cancelled timer is in no chain.
   pub cancels : (id : ℕ) → c ≡ cancel id → outcome t c .status ≡ 0
       → sumOf (λ _ l. count (λ w. eqb (w .slot) (indexOf id)) l) (read (outcome t c .table)) ≡ 0
-  -- An accepted reset is a start for ticks, of that timer's last start.
+  -- An accepted reset is a start for ticks, that timer's last start again.
   pub restarts : (id : ℕ) → c ≡ reset id → outcome t c .status ≡ 0
-      → (s : Start) × (e ≡ changes id (some s)) × (s .id ≡ id) × (chainFor (s .mode) ≡ ByTicks)
+      → (s : Start) × (e ≡ changes id (some s)) × (s .id ≡ id) × (chainFor (s .mode) ≡ ByTicks) × (lastStart id es ≡ some s)
+  -- Ticks left are those in the interval chain; 0 for a timer that is not there.
+  pub left : (id : ℕ) → c ≡ ticksLeft id → outcome t c .status ≡ 0 → outcome t c .answer ≡ waitAt (indexOf id) (links ByTicks t) ∷ []
   -- An id names a timer as long as it lasts; a create answers one that named none.
   pub lasts : outcome t c .status ≡ 0 → (id : ℕ)
       → names (read (outcome t c .table)) id ≡ lastsAfter c (firstNumber (outcome t c .answer)) id (names (read t) id)

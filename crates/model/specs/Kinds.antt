@@ -1,4 +1,4 @@
--- Document 01, "Kinds", document 02, item 1, and the chains in which timers wait. Assumes nothing: these are definitions.
+-- Document 01, "Kinds", document 02, items 1 and 5, and the chains in which timers wait or are queued. Assumes nothing: these are definitions.
 use Prim.Native.Nat.{ℕ}
 use mathlib.Core.Bool.{Bool, true, false}
 use mathlib.Core.Option.{Option, none, some}
@@ -71,7 +71,7 @@ isServer Every = false
 isServer ServerAfter = true
 isServer ServerWhen = true
 
--- the two chains are the same
+-- these two chains are the same
 abbrev pub sameChain : Chain → Chain → Bool
 sameChain ByTicks ByTicks = true
 sameChain ByTicks ByDate = false

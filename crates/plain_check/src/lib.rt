@@ -62,6 +62,7 @@ pub fn is_sound(t: &[u32]) -> bool
             date_at = get(&*t, date_at, NEXT);
         }
     }
+    // one test for the end of a walk and the queue that must be empty
     if (tick_at | t[FIRST_QUEUED]) != 0 {
         return false;
     }

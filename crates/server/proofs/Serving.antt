@@ -11,14 +11,14 @@ use lib.Seq.{sets}
 use lib.Dec.{eqb}
 use borrow.Author.Tests.{eq-eqb, ne-eqb}
 use Rattle.model.specs.declared.Chain.{Chain}
-use Rattle.model.specs.declared.Chain.the-variants.{Queue}
+use Rattle.model.specs.declared.Chain.the-variants.{ByTicks, Queue}
 use Rattle.model.specs.Kinds.{kindAt, sameChain, waitsIn}
 use Rattle.model.specs.State.{Slot, Link, State, chainOf, withChain, slotAt, putAt, without, idBase, listed}
 use Rattle.model.specs.Directives.{stopped, became, idled, firedAll, front, handedOut, initiated}
 use Rattle.model.specs.Words.{first, allSlots, write, writtenOver, slotFrom, read, kindOf, serverInitiated, firstQueued}
 use Rattle.model.specs.Sound.{sound}
 use Rattle.model.specs.Outcome.{written}
-use Rattle.model.proofs.ListLaws.{cases}
+use Rattle.model.proofs.ListLaws.{cases, clash}
 use Rattle.model.proofs.KindLaws.{of-chain, each-chain}
 use Rattle.model.proofs.WellFormed.{timesIn, Holds}
 use Rattle.model.proofs.Chains.{times-own, without-none, once, once-apart}
@@ -95,6 +95,8 @@ module _ {t : List ℕ} (h : Holds t (read t)) {i : ℕ} (here : i ≡ firstQueu
       in-table = record { holds = h; low = a .low; high = omega (arith, a .high, slots-length t) };
       is = is;
       waits = ap (waitsIn Queue) is ∙ ap (λ (x : Slot). waitsIn Queue (x .kind)) (sym own) ∙ waits;
+      first = a .previous;
+      due = λ e. clash (sym (ap (sameChain ByTicks) e));
       fits = long;
       few = omega arith;
     }
@@ -114,7 +116,7 @@ module _ {t : List ℕ} (h : Holds t (read t)) {i : ℕ} (here : i ≡ firstQueu
         ∙ sym (stopped-chain s j (idled x) m
         ∙ without-none j (chainOf m s) (omega (arith, here-once, once-apart s (h .chained) m Queue away j)))))
 
-    pub serve-some : (list : List ℕ) → 3 ≤ length list → {t′ list′ : List ℕ} → CameOff t list i 0 t′ list′ → Served t list 1 t′ list′
+    pub serve-some : (list : List ℕ) → 3 ≤ length list → {next : ℕ} {t′ list′ : List ℕ} → CameOff t list i 0 next t′ list′ → Served t list 1 t′ list′
     serve-some list long f =
         let fs = map (listed (s .slots)) (a .entry ∷ []) in
         record {

@@ -52,7 +52,13 @@ pub fn initiate_server(table: &mut [u32]) -> Answer
 }
 
 // A timer is queued so many ticks from now.
-pub fn server_fire_after(table: &mut [u32], id: u32, ticks: u32, routine: u32, user_data: u32) -> Answer
+pub fn server_fire_after(
+    table: &mut [u32],
+    id: u32,
+    ticks: u32,
+    routine: u32,
+    user_data: u32,
+) -> Answer
     ensures { λ r. ⌜ outcomeOf (statusOf r) (answerOf r) (now (table .exit)) [] ≡ outcome (now (table .entry)) (call.serverFireAfter id ticks routine user_data) ⌝ }
 {
     let opened = open_server(table);
@@ -63,7 +69,13 @@ pub fn server_fire_after(table: &mut [u32], id: u32, ticks: u32, routine: u32, u
 }
 
 // A timer is queued at a date.
-pub fn server_fire_when(table: &mut [u32], id: u32, when: WallTime, routine: u32, user_data: u32) -> Answer
+pub fn server_fire_when(
+    table: &mut [u32],
+    id: u32,
+    when: WallTime,
+    routine: u32,
+    user_data: u32,
+) -> Answer
     ensures { λ r. ⌜ outcomeOf (statusOf r) (answerOf r) (now (table .exit)) [] ≡ outcome (now (table .entry)) (call.serverFireWhen id when routine user_data) ⌝ }
 {
     let opened = open_server(table);
@@ -83,7 +95,8 @@ pub fn serve(table: &mut [u32], served: &mut [u32]) -> Answer
     if served.len() < SERVED {
         return Answer::Refused(Status::ListTooShort);
     }
-    if table[SERVER] != 1 {
+    let initiated = table[SERVER];
+    if initiated != 1 {
         return Answer::Refused(Status::IncorrectState);
     }
     let i = table[FIRST_QUEUED];

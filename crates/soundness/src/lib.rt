@@ -6,7 +6,8 @@
 // the walk comes to, which is mostly not the slot that pays: its index is 1 to N, its previous is the slot that the walk comes from, and its wait fits
 // what the walk has reached. For the interval chain that is the ticks so far, the sum of the waits, which must be 1 at least and not above the slot's
 // interval; for the dated chain the date before, which must not be above the slot's; in the queue the slot is of kind 12 or 13 and its wait is 0. When
-// the pass is over, the walks must stand at 0, and the last date must not be past the last second.
+// the pass is over, the walks must stand at 0, and the last date must not be past the last second. The walk along the queue then comes from its last
+// slot, which `checked` hands on, so that timers are queued behind it without a search.
 //
 // Where the server is not initiated, kinds 8 to 13 do not occur, and the queue must be empty: the pass knows kinds 0 to 7 and two walks. So tables
 // without server timers do not pay for them.
@@ -31,8 +32,17 @@
 // `walks`; the pass in `plain_check` and `server_check`.
 ghost use mathlib.Core.Path.{_≡_};
 ghost use Rattle.model.specs.Sound.{sound};
+ghost use Rattle.soundness.specs.Verdicts.{verdict};
+use server_check::UNSOUND;
+use server_check::last_queued;
 use table::*;
 use word_checks::header_sound;
+
+// The table is not sound; or it is, and this is the last slot of the queue, 0 if the queue is empty.
+pub enum Verdict {
+    Unsound,
+    Sound(u32),
+}
 
 // Whether the table is sound.
 pub fn is_sound(t: &[u32]) -> bool
@@ -41,8 +51,31 @@ pub fn is_sound(t: &[u32]) -> bool
     if !header_sound(&*t) {
         return false;
     }
-    if t[SERVER] == 0 {
-        return plain_check::is_sound(&*t);
+    if t[SERVER] != 0 {
+        return last_queued(&*t) != UNSOUND;
     }
-    server_check::is_sound(&*t)
+    plain_check::is_sound(&*t)
+}
+
+// Whether the table is sound and, if it is, the last slot of the queue: for a call that may queue timers behind it.
+pub fn checked(t: &[u32]) -> Verdict
+    ensures { λ r. ⌜ r ≡ verdict (now (t .entry)) ⌝ }
+{
+    if t.len() < HEADER {
+        return Verdict::Unsound;
+    }
+    if t[SERVER] == 0 {
+        if is_sound(&*t) {
+            return Verdict::Sound(0);
+        }
+        return Verdict::Unsound;
+    }
+    if !header_sound(&*t) {
+        return Verdict::Unsound;
+    }
+    let last = last_queued(&*t);
+    if last == UNSOUND {
+        return Verdict::Unsound;
+    }
+    Verdict::Sound(last)
 }

@@ -21,7 +21,14 @@ use table::CLOCK_SET;
 use table::SECONDS;
 
 // A timer waits for so many ticks from now, as the mode says, behind every timer due at the same tick.
-pub fn start_for_ticks(table: &mut [u32], mode: Mode, id: u32, ticks: u32, routine: u32, user_data: u32) -> Answer
+pub fn start_for_ticks(
+    table: &mut [u32],
+    mode: Mode,
+    id: u32,
+    ticks: u32,
+    routine: u32,
+    user_data: u32,
+) -> Answer
     requires { ⌜ sound (now table) ≡ true ⌝ }
     ensures { λ r. ⌜ outcomeOf (statusOf r) (answerOf r) (now (table .exit)) [] ≡ startOutcome mode (startRules (read (now (table .entry))) id ticks routine) (now (table .entry)) id ticks routine user_data ⌝ }
 {
@@ -40,7 +47,14 @@ pub fn start_for_ticks(table: &mut [u32], mode: Mode, id: u32, ticks: u32, routi
 }
 
 // A timer waits for a date, as the mode says, behind every timer due at the same date.
-pub fn start_for_date(table: &mut [u32], mode: Mode, id: u32, when: WallTime, routine: u32, user_data: u32) -> Answer
+pub fn start_for_date(
+    table: &mut [u32],
+    mode: Mode,
+    id: u32,
+    when: WallTime,
+    routine: u32,
+    user_data: u32,
+) -> Answer
     requires { ⌜ sound (now table) ≡ true ⌝ }
     ensures { λ r. ⌜ outcomeOf (statusOf r) (answerOf r) (now (table .exit)) [] ≡ startOutcome mode (dateRules (read (now (table .entry))) id when routine) (now (table .entry)) id (secondsOf when) routine user_data ⌝ }
 {

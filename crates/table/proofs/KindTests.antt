@@ -44,8 +44,15 @@ queued-is =
 pub timed-is : (n : ℕ) → lastByTicks n ≡ (eqb n 2 || eqb n 4 || eqb n 6 || eqb n 7 || eqb n 8 || eqb n 10 || eqb n 12)
 timed-is =
     number (λ x. byTicks (x .last)) (λ n. eqb n 2 || eqb n 4 || eqb n 6 || eqb n 7 || eqb n 8 || eqb n 10 || eqb n 12) refl
-    (λ n p. sym (rw (past n 2 p (omega arith), past n 4 p (omega arith), past n 6 p (omega arith), past n 7 p (omega arith),
-    past n 8 p (omega arith), past n 10 p (omega arith), past n 12 p (omega arith))))
+    (λ n p. sym (rw (
+      past n 2 p (omega arith),
+      past n 4 p (omega arith),
+      past n 6 p (omega arith),
+      past n 7 p (omega arith),
+      past n 8 p (omega arith),
+      past n 10 p (omega arith),
+      past n 12 p (omega arith),
+    )))
 
 -- ---- what the chains say of a kind
 

@@ -91,7 +91,7 @@ module _ (k : Chain) (t : List ℕ) where
   links-first f b zero h = absurd (omega arith)
   links-first f b (suc i) h = refl
 
-  links-zero : (f b : ℕ) → linksFrom k t f b 0 ≡ []
+  pub links-zero : (f b : ℕ) → linksFrom k t f b 0 ≡ []
   links-zero zero b = refl
   links-zero (suc f) b = refl
 

@@ -29,7 +29,7 @@ use Rattle.walks.proofs.StepTests.{in-ticks, in-queue}
 use Rattle.walks.proofs.CountsAddUp.{times}
 use Rattle.walks.proofs.NoSlotTwice.{along-first}
 use Rattle.walks.proofs.WalkDecidesChain.{waitsSound, walk, walked, met-once}
-use Rattle.walks.proofs.UntestedFollows.{Slots, Queued, queued, queue-walk, Ticking, Apart, Dated, kinds, ticks-whole, ticks-tested, dates-whole, dates-tested, interval-low, stands-behind}
+use Rattle.walks.proofs.UntestedFollows.{Slots, Queued, queued, queue-walk, Ticking, Apart, Dated, kinds, within, ticks-whole, ticks-tested, dates-whole, dates-tested, interval-low, stands-behind}
 
 -- ---- the whole
 
@@ -56,13 +56,19 @@ module _ (server : Bool) (t : List ℕ) where
   whole : (k : Chain) → chainSound k t ≡ true → waitsSound k t ≡ true → walk k t N (steps k) (start k t) ≡ true
   whole k c w = walked t k ∙ and-both (chainSound k t) (waitsSound k t) c w
 
-  -- the head of a chain is of its kind
+  -- the head of a chain is of its kinds, and a slot of the table
   head-kind : (k : Chain) → walk k t N (steps k) (start k t) ≡ true → 1 ≤ word t (headWord k) → waitsIn k (kindOf t (word t (headWord k))) ≡ true
   head-kind k w h =
       let i = word t (headWord k) in
       let all : All (λ j. (1 ≤ j) × (waitsIn k (kindOf t j) ≡ true)) (i ∷ along (nextOf t) 0 (nextOf t i)) =
       rw (along-first (nextOf t) 0 i h) at (kinds server t k (steps k) 1 (start k t) w) in
       all .0 .1
+
+  head-in : (k : Chain) → walk k t N (steps k) (start k t) ≡ true → 1 ≤ word t (headWord k) → word t (headWord k) ≤ N
+  head-in k w h =
+      let i = word t (headWord k) in
+      let all : All (λ j. j ≤ N) (i ∷ along (nextOf t) 0 (nextOf t i)) = rw (along-first (nextOf t) 0 i h) at (within server t k (steps k) 1 (start k t) w) in
+      all .0
 
   heads-apart : walk ByTicks t N (steps ByTicks) (start ByTicks t) ≡ true → walk ByDate t N (steps ByDate) (start ByDate t) ≡ true
       → headsTested t ≡ true
@@ -142,6 +148,20 @@ module _ (server : Bool) (t : List ℕ) where
       → sound t ≡ (b && leftTested server t N 1 N (start ByTicks t) (start ByDate t) (start Queue t))
   after-heads b h f e =
       tests-decide h f ∙ ap (λ (b : Bool). b && leftTested server t N 1 N (start ByTicks t) (start ByDate t) (start Queue t)) e
+
+-- the first slot of a chain, if there is one, is a slot of the table and of the chain's kinds
+chain-whole : (k : Chain) (t : List ℕ) → sound t ≡ true → (chainSound k t ≡ true) × (waitsSound k t ≡ true)
+unfolding sound
+chain-whole ByTicks t e = (all-at (soundTests t) e 2, all-at (soundTests t) e 5)
+chain-whole ByDate t e = (all-at (soundTests t) e 3, all-at (soundTests t) e 6)
+chain-whole Queue t e = (all-at (soundTests t) e 4, all-at (soundTests t) e 7)
+
+pub first-slot : (k : Chain) (t : List ℕ) → sound t ≡ true → 1 ≤ word t (headWord k)
+    → (word t (headWord k) ≤ slotCount t) × (waitsIn k (kindOf t (word t (headWord k))) ≡ true)
+first-slot k t e h =
+    let c = chain-whole k t e in
+    let w = whole true t k (c .0) (c .1) in
+    (head-in true t k w h, head-kind true t k w h)
 
 -- ---- a test before the pass fails
 
@@ -246,7 +266,8 @@ begin server t e f apart =
       ticks = omega arith;
       left =
           after-heads server t true e f apart
-          ∙ ap₂ (λ (m d : ℕ). leftTested server t (slotCount t) 1 m (standing (firstTicking t) 0 0) (standing (firstDated t) 0 d) (standing (firstQueued t) 0 0))
+          ∙ ap₂
+          (λ (m d : ℕ). leftTested server t (slotCount t) 1 m (standing (firstTicking t) 0 0) (standing (firstDated t) 0 d) (standing (firstQueued t) 0 0))
           (let z : slotCount t ≡ slotCount t + 1 - 1 = omega arith in z) (sym (add-one (seconds t)));
     }
 

@@ -72,6 +72,9 @@ module _ (server : Bool) (t : List ℕ) where
       (h .link .low, h .kind))
       c f x e
 
+  pub within : (k : Chain) (c f : ℕ) (x : Stand) → walk k t N c x ≡ true → All (λ j. j ≤ N) (along (nextOf t) f (x .slot))
+  within k c f x e = each k (λ j. j ≤ N) (λ y s. in-step k y s .link .high) c f x e
+
   intervals : (c f : ℕ) (x : Stand) → walk ByTicks t N c x ≡ true → All (λ j. 1 ≤ intervalOf t j) (along (nextOf t) f (x .slot))
   intervals c f x e =
       each ByTicks (λ j. 1 ≤ intervalOf t j)
@@ -154,8 +157,7 @@ module _ (server : Bool) (t : List ℕ) where
       let none : All (λ i. waitOf t i ≡ 0) (along (nextOf t) f (firstQueued t)) =
       each Queue (λ i. waitOf t i ≡ 0)
       (λ y s. eqb-true (waitOf t (y .slot)) 0 (both (linkSound Queue t N (y .slot) (y .before)) (eqb (waitOf t (y .slot)) 0) s .1))
-      c f (start Queue t) e in
-      (
+      c f (start Queue t) e in (
         all-times (λ i. waitOf t i ≡ 0) (along (nextOf t) f (firstQueued t)) j none (met j a b k),
         stands-behind Queue c f (firstQueued t) 0 e j (met j a b k),
       )

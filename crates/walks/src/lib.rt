@@ -27,7 +27,7 @@ pub fn heads_tested(t: &[u32]) -> bool
 }
 
 // A timer of this kind is queued.
-pub fn is_queued(kind: u32) -> bool
+fn is_queued(kind: u32) -> bool
     ensures { λ r. ⌜ r ≡ waitsIn Queue kind ⌝ }
 {
     if kind == QUEUED_TICKS {
@@ -37,7 +37,7 @@ pub fn is_queued(kind: u32) -> bool
 }
 
 // Slot i is one of n, and slot p stands before it.
-pub fn link_tested(t: &[u32], n: u32, i: u32, p: u32) -> bool
+fn link_tested(t: &[u32], n: u32, i: u32, p: u32) -> bool
     requires { ⌜ 8 * n + 10 ≤ length (now t) ⌝ }
     ensures { λ r. ⌜ r ≡ linkTested (now (t .entry)) n i p ⌝ }
 {

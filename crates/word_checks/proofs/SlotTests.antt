@@ -17,7 +17,7 @@ use Rattle.model.specs.Sound.{slotTests, slotSound, unlinked, unstarted}
 use Rattle.model.proofs.ListLaws.{cases, clash, both, or-right, all-at, all-true}
 use Rattle.model.proofs.KindLaws.{in-ticks}
 use Rattle.table.proofs.KindTests.{new-apart}
-use Rattle.word_checks.specs.Tested.{idleTested, slotTestsMade, slotTestedAs, slotTested}
+use Rattle.word_checks.specs.Tested.{newTested, idleTested, slotTestsMade, slotTestedAs, slotTested}
 use Rattle.word_checks.proofs.BooleanTests.{fails}
 
 -- the kind of a slot that is idle after a start of that mode
@@ -48,29 +48,24 @@ module _ (server : Bool) (t : List ℕ) (i : ℕ) where
   unfolding slotTested
   as-kind k e = ap (slotTestedAs server t i) e
 
-  pub blank-fails : kindOf t i ≤ 1 → (unstarted t i && unlinked t i) ≡ false → false ≡ slotTested server t i
-  blank-fails h e =
-      cases (unstarted t i)
-      (λ v. slot-fails 6 (rw (new-apart (kindOf t i) h) (rw v at e)))
-      (λ v. slot-fails 3 (rw (le-ltb 1 (kindOf t i) h) v))
-
-  -- only the name is left: the interval is among the words that `unstarted` tests
-  blank : (a : Bool) → (unstarted t i && unlinked t i) ≡ true
-      → (a && (unstarted t i && (eqb (intervalOf t i) 0 && (unlinked t i && true)))) ≡ a
-  blank a e =
-      let z = both (unstarted t i) (unlinked t i) e in
-      go a (unstarted t i) (eqb (intervalOf t i) 0) (unlinked t i) (z .0)
-      (all-at (eqb (intervalOf t i) 0 ∷ eqb (routineOf t i) 0 ∷ eqb (dataOf t i) 0 ∷ []) (z .0) 0) (z .1)
+  -- a slot that is free or was never started: the interval is among the words that `unstarted` tests
+  pub new-slot : {k : ℕ} → k ≡ kindOf t i → k ≤ 1 → newTested t i k ≡ slotTested server t i
+  new-slot {k} f h =
+      cases (eqb k 0)
+      (λ e. rw e (sym (as-kind 0 (sym f ∙ eqb-true k 0 e) ∙ turned (eqb (nameOf t i) 0))))
+      (λ e.
+      let one : k ≡ 1 = omega (arith, eqb-false k 0 e) in
+      rw e (sym (as-kind 1 (sym f ∙ one) ∙ turned (ltb 0 (nameOf t i)))))
     where
-      go : (a p q r : Bool) → p ≡ true → q ≡ true → r ≡ true → (a && (p && (q && (r && true)))) ≡ a
-      go true p q r x y z = rw (x, y, z)
-      go false p q r x y z = refl
+      ordered : (a p q r : Bool) → (p ≡ true → q ≡ true) → (a && (p && (q && (r && true)))) ≡ (a && (p && r))
+      ordered false p q r h = refl
+      ordered true false q r h = refl
+      ordered true true q r h = rw (h refl) (and-true r)
 
-  pub free-name : kindOf t i ≡ 0 → (unstarted t i && unlinked t i) ≡ true → eqb (nameOf t i) 0 ≡ slotTested server t i
-  free-name e b = sym (as-kind 0 e ∙ blank (eqb (nameOf t i) 0) b)
-
-  pub new-name : kindOf t i ≡ 1 → (unstarted t i && unlinked t i) ≡ true → ltb 0 (nameOf t i) ≡ slotTested server t i
-  new-name e b = sym (as-kind 1 e ∙ blank (ltb 0 (nameOf t i)) b)
+      turned : (a : Bool) → (a && (unstarted t i && (eqb (intervalOf t i) 0 && (unlinked t i && true)))) ≡ (a && (unstarted t i && unlinked t i))
+      turned a =
+          ordered a (unstarted t i) (eqb (intervalOf t i) 0) (unlinked t i)
+          (λ z. all-at (eqb (intervalOf t i) 0 ∷ eqb (routineOf t i) 0 ∷ eqb (dataOf t i) 0 ∷ []) z 0)
 
   -- name and routine are right: the rest decides
   pub rest : (a : Bool) → 0 < nameOf t i → 0 < routineOf t i → (ltb 0 (nameOf t i) && (ltb 0 (routineOf t i) && a)) ≡ a

@@ -7,12 +7,16 @@ use lib.Dec.{ltb, eqb}
 use Rattle.calendar.specs.Calendar.{allOf}
 use Rattle.model.specs.declared.Chain.the-variants.{ByTicks}
 use Rattle.model.specs.Kinds.{waitsIn}
-use Rattle.model.specs.Words.{kindOf, intervalOf}
-use Rattle.model.specs.Sound.{unlinked, slotTests}
+use Rattle.model.specs.Words.{kindOf, nameOf, intervalOf}
+use Rattle.model.specs.Sound.{unlinked, unstarted, slotTests}
 
 -- all three numbers are zero
 abbrev pub allZero : ℕ → ℕ → ℕ → Bool
 allZero a b c = allOf (eqb a 0 ∷ eqb b 0 ∷ eqb c 0 ∷ [])
+
+-- a slot that is free or was never started: its name is zero just where it is free
+abbrev pub newTested : List ℕ → ℕ → ℕ → Bool
+newTested t i kind = cond (eqb kind 0) (eqb (nameOf t i) 0) (ltb 0 (nameOf t i)) && (unstarted t i && unlinked t i)
 
 -- an idle slot: its interval is zero after a start by date, 1 or more after one by interval
 abbrev pub idleTested : List ℕ → ℕ → Bool → Bool

@@ -1,9 +1,12 @@
 -- `clock::set_clock` meets its contract: the clock is set, and the dated timers then due fire. Assumes nothing.
 use borrow.Author.Needs.{needs}
 use mathlib.Core.List.{List}
-use mathlib.Core.Path.{refl}
+use mathlib.Core.Path.{refl, sym, ap}
 use Prim.Native.Nat.{ℕ}
 use Rattle.model.specs.declared.Status.the-variants.{InvalidClock}
+use Rattle.model.specs.declared.Chain.the-variants.{ByTicks}
+use Rattle.model.specs.Kinds.{sameChain}
+use Rattle.model.proofs.ListLaws.{clash}
 use Rattle.model.proofs.SoundHolds.{sound-holds}
 use Rattle.firing.proofs.Ticks.{moved-room, moved-is}
 use Rattle.answers.proofs.Replies.{refuses}
@@ -72,7 +75,7 @@ fire-requires : tie.Need-fire-requires
 fire-requires c κs =
     let moved = c .before .before .before .before in
     let l = lent (moved .before .before .before .before .before .before .before) in
-    moved-room _ _ (l .ok) (l .long) (l .last) _ (moved .set-clock .ensures) _ refl _
+    moved-room _ _ (l .ok) (l .long) (l .last) _ (moved .set-clock .ensures) _ refl _ (λ e. clash (sym (ap (sameChain ByTicks) e)))
 
 same-length-5 : tie.Need-same-length-5
 same-length-5 c = search needs

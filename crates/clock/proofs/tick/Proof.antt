@@ -82,7 +82,7 @@ fire-requires : tie.Need-fire-requires
 fire-requires c κs =
     let near = c .before .before .before .before in
     let o = roomy near in
-    nearer-room _ _ (lent o .ok) (lent o .long) (lent o .last) (near .come-nearer .ensures) _
+    nearer-room _ _ (lent o .ok) (lent o .long) (lent o .last) (near .come-nearer .ensures) _ refl
 
 step-clock-requires : tie.Need-step-clock-requires
 step-clock-requires c κs =

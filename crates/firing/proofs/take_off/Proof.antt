@@ -10,11 +10,11 @@ use Rattle.firing.proofs.take_off.Statement.{statement}
 use Rattle.firing.proofs.take_off.Tie as tie
 
 abbrev Inv-loop : tie.InvT-loop
-Inv-loop t₀ list₀ chain limit from end counts₀ i₀ t list counts i =
-    Taking chain t₀ list₀ limit from t list (tallyOf (counts .count) (counts .periodic) (counts .end)) i
+Inv-loop t₀ list₀ chain limit from end first counts₀ t list counts =
+    Taking chain t₀ list₀ limit from t list (tallyOf (counts .count) (counts .periodic) (counts .end) (counts .front))
 
 abbrev μ-loop : tie.MeasureT-loop
-μ-loop t₀ list₀ chain limit from end counts₀ i₀ t list counts i = length (chainOf chain (read t))
+μ-loop t₀ list₀ chain limit from end first counts₀ t list counts = length (chainOf chain (read t))
 
 follower-requires : tie.Need-follower-requires Inv-loop μ-loop
 follower-requires c κs = omega (arith, c .before .before .before .pre .holds .long)
@@ -24,61 +24,57 @@ loop-holds c = taking-start (c .before .before .before .before .pre) (c .followe
 
 get-requires : tie.Need-get-requires Inv-loop μ-loop
 get-requires c κs =
-    let f = c .before .before .loop .inv in
-    (omega arith, omega (arith, taking-front f (c .before .if1 .left) .high, f .room .holds .long))
+    let first = c .before in
+    let f = first .before .before .loop .inv in
+    (omega arith, omega (arith, taking-front f (first .if1 .left) .high, f .room .holds .long))
 
 turn-requires : tie.Need-turn-requires Inv-loop μ-loop
 turn-requires c κs =
     let test = c .before .before in
     let first = test .before .before .before in
-    taking-turn (first .before .loop .inv) (first .if1 .left) (test .before .get .ensures) (test .if2 .left)
-
-follower-requires-2 : tie.Need-follower-requires-2 Inv-loop μ-loop
-follower-requires-2 c κs =
-    let off = c .before .before .before .before .before in
-    omega (arith, off .turn .kept, off .before .before .before .before .before .before .before .loop .inv .room .holds .long)
+    taking-turn (first .before .before .loop .inv) (first .if1 .left) (test .before .get .ensures) (test .if2 .left)
 
 loop-less : tie.Need-loop-less Inv-loop μ-loop
 loop-less c =
-    let off = c .before .before .before .before .before .before in
+    let off = c .before .before .before .before in
     let test = off .before .before .before in
     let first = test .before .before .before in
-    taking-less (first .before .loop .inv) (first .if1 .left) (test .before .get .ensures) (test .if2 .left) (off .turn .ensures)
+    taking-less (first .before .before .loop .inv) (first .if1 .left) (test .before .get .ensures) (test .if2 .left) (off .turn .ensures)
 
 loop-again : tie.Need-loop-again Inv-loop μ-loop
 loop-again c =
-    let off = c .before .before .before .before .before .before in
+    let off = c .before .before .before .before in
     let test = off .before .before .before in
     let first = test .before .before .before in
-    taking-again (first .before .loop .inv) (first .if1 .left) (test .before .get .ensures) (test .if2 .left) (off .turn .ensures) (c .follower2 .ensures)
+    taking-again (first .before .before .loop .inv) (first .if1 .left) (test .before .get .ensures) (test .if2 .left) (off .turn .ensures)
 
 same-length : tie.Need-same-length Inv-loop μ-loop
 same-length c =
-    taken-length (c .before .before .before .before .before .before .pre) (taking-none (c .before .loop .inv) (c .if1 .taken))
+    taken-length (c .before .before .before .before .before .before .before .pre) (taking-none (c .before .before .loop .inv) (c .if1 .taken))
 
 same-length-2 : tie.Need-same-length-2 Inv-loop μ-loop
 same-length-2 c =
-    taken-list-length (c .before .before .before .before .before .before .pre) (taking-none (c .before .loop .inv) (c .if1 .taken))
+    taken-list-length (c .before .before .before .before .before .before .before .pre) (taking-none (c .before .before .loop .inv) (c .if1 .taken))
 
 returns : tie.Need-returns Inv-loop μ-loop
-returns c = taking-none (c .before .loop .inv) (c .if1 .taken)
+returns c = taking-none (c .before .before .loop .inv) (c .if1 .taken)
 
 same-length-3 : tie.Need-same-length-3 Inv-loop μ-loop
 same-length-3 c =
     let first = c .before .before .before in
-    taken-length (first .before .before .before .before .before .before .pre)
-    (taking-later (first .before .loop .inv) (first .if1 .left) (c .before .get .ensures) (c .if2 .taken))
+    taken-length (first .before .before .before .before .before .before .before .pre)
+    (taking-later (first .before .before .loop .inv) (first .if1 .left) (c .before .get .ensures) (c .if2 .taken))
 
 same-length-4 : tie.Need-same-length-4 Inv-loop μ-loop
 same-length-4 c =
     let first = c .before .before .before in
-    taken-list-length (first .before .before .before .before .before .before .pre)
-    (taking-later (first .before .loop .inv) (first .if1 .left) (c .before .get .ensures) (c .if2 .taken))
+    taken-list-length (first .before .before .before .before .before .before .before .pre)
+    (taking-later (first .before .before .loop .inv) (first .if1 .left) (c .before .get .ensures) (c .if2 .taken))
 
 returns-2 : tie.Need-returns-2 Inv-loop μ-loop
 returns-2 c =
     let first = c .before .before .before in
-    taking-later (first .before .loop .inv) (first .if1 .left) (c .before .get .ensures) (c .if2 .taken)
+    taking-later (first .before .before .loop .inv) (first .if1 .left) (c .before .get .ensures) (c .if2 .taken)
 
 pub take-off-spec : {M : Type 1} → statement M
 take-off-spec =
@@ -90,7 +86,6 @@ take-off-spec =
     loop-holds
     get-requires
     turn-requires
-    follower-requires-2
     loop-less
     loop-again
     same-length

@@ -9,7 +9,7 @@ use Rattle.firing.proofs.turn.Tie as tie
 
 get-requires : tie.Need-get-requires
 get-requires c κs =
-    let start = c .before .before .before in (omega arith, in-words (start .args .t .now) (start .args .i) (start .pre .comes .in-table))
+    let start = c .before .before .before in (omega arith, in-words (start .args .t .now) (start .args .counts .front) (start .pre .comes .in-table))
 
 queue-requires : tie.Need-queue-requires
 queue-requires c κs =

@@ -7,17 +7,17 @@ use borrow.Author.Needs.{needs}
 use Rattle.going_on.proofs.queue.Statement.{statement}
 use Rattle.going_on.proofs.queue.Tie as tie
 
-sub-stop-in : tie.Need-sub-stop-in
-sub-stop-in c = omega (arith, c .before .before .pre .low)
+sub-stop-first : tie.Need-sub-stop-first
+sub-stop-first c = omega (arith, c .before .before .pre .low)
 
-stop-in-requires : tie.Need-stop-in-requires
-stop-in-requires c κs = let start = c .before .before in queue-stops (start .args .t .now) (start .pre)
+stop-first-requires : tie.Need-stop-first-requires
+stop-first-requires c κs = let start = c .before .before in queue-stops (start .args .t .now) (start .pre)
 
 insert-requires : tie.Need-insert-requires
 insert-requires c κs =
-    let done = c .before .before .before .stop-in in
+    let done = c .before .before .before .stop-first in
     let start = c .before .before .before .before .before .before in
-    queue-insertable (start .args .t .now) (start .pre) (done .last .0) (done .ensures)
+    queue-insertable (start .args .t .now) (start .pre) (done .last .0) (done .ensures .0)
 
 add-put : tie.Need-add-put
 add-put c = search needs
@@ -27,7 +27,7 @@ put-requires c κs =
     let put = c .before .before .before in
     let done = put .before .before .before .before in
     let start = done .before .before .before in
-    (omega arith, omega (arith, put .insert .kept, done .stop-in .kept, in-words (start .args .t .now) (start .args .i) (start .pre .in-table)))
+    (omega arith, omega (arith, put .insert .kept, done .stop-first .kept, in-words (start .args .t .now) (start .args .i) (start .pre .in-table)))
 
 same-length : tie.Need-same-length
 same-length c = search needs
@@ -37,8 +37,10 @@ returns c =
     let last = c .before .before in
     let put = last .before .before .before .before in
     let done = put .before .before .before .before in
-    let start = done .before .before .before in
-    queue-now (start .args .t .now) (start .pre) (done .stop-in .last .0) (done .stop-in .ensures) refl (put .insert .ensures) (last .put .ensures)
+    let start = done .before .before .before in (
+      queue-now (start .args .t .now) (start .pre) (done .stop-first .last .0) (done .stop-first .ensures .0) refl (put .insert .ensures) (last .put .ensures),
+      done .stop-first .ensures .1,
+    )
 
 pub queue-spec : {M : Type 1} → statement M
-queue-spec = tie.close (tie.spec sub-stop-in stop-in-requires insert-requires add-put put-requires same-length returns)
+queue-spec = tie.close (tie.spec sub-stop-first stop-first-requires insert-requires add-put put-requires same-length returns)

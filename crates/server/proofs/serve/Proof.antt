@@ -58,8 +58,8 @@ returns-2 c =
     let b = c .before in
     refuses _ _ ListTooShort 1 (sure b .rule, tt) (lt-ltb (length (list b)) 3 (omega (arith, c .if2 .taken))) refl
 
-slice-read-if3 : tie.Need-slice-read-if3
-slice-read-if3 c = let h = sound-header _ (sure (c .before .before) .ok) in omega arith
+slice-read-initiated : tie.Need-slice-read-initiated
+slice-read-initiated c = let h = sound-header _ (sure (c .before .before) .ok) in omega arith
 
 same-length-3 : tie.Need-same-length-3
 same-length-3 c = search needs
@@ -125,7 +125,7 @@ serve-spec =
     returns
     same-length-2
     returns-2
-    slice-read-if3
+    slice-read-initiated
     same-length-3
     returns-3
     slice-read-i

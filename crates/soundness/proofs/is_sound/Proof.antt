@@ -6,6 +6,7 @@ use Rattle.model.specs.Sound.{headerSound}
 use Rattle.word_checks.proofs.BooleanTests.{passed, failed}
 use Rattle.word_checks.proofs.HeaderTests.{header-ranges}
 use Rattle.walks.proofs.OnePass.{header-false}
+use Rattle.soundness.proofs.VerdictLaws.{other-than}
 use borrow.Author.Needs.{needs}
 use Rattle.soundness.proofs.is_sound.Statement.{statement}
 use Rattle.soundness.proofs.is_sound.Tie as tie
@@ -22,14 +23,14 @@ returns c = header-false _ (failed (c .before .header-sound .ensures) (c .if1 .t
 shared-slice-read-if2 : tie.Need-shared-slice-read-if2
 shared-slice-read-if2 c = omega (arith, header-ranges _ (header (c .before)))
 
-is-sound-requires : tie.Need-is-sound-requires
-is-sound-requires c κs = (header (c .before .before), c .if2 .taken)
+last-queued-requires : tie.Need-last-queued-requires
+last-queued-requires c κs = let h = header (c .before .before) in (h, omega (arith, header-ranges _ h .server, c .if2 .taken))
 
 returns-2 : tie.Need-returns-2
-returns-2 c = search needs
+returns-2 c = rw (c .last-queued .ensures) (other-than _)
 
-is-sound-requires-2 : tie.Need-is-sound-requires-2
-is-sound-requires-2 c κs = let h = header (c .before .before) in (h, omega (arith, header-ranges _ h .server, c .if2 .left))
+is-sound-requires : tie.Need-is-sound-requires
+is-sound-requires c κs = (header (c .before .before), c .if2 .left)
 
 returns-3 : tie.Need-returns-3
 returns-3 c = search needs
@@ -41,7 +42,7 @@ is-sound-spec =
     header-sound-requires
     returns
     shared-slice-read-if2
-    is-sound-requires
+    last-queued-requires
     returns-2
-    is-sound-requires-2
+    is-sound-requires
     returns-3)

@@ -16,7 +16,9 @@ all-zero-requires : tie.Need-all-zero-requires
 all-zero-requires c κs = search needs
 
 returns : tie.Need-returns
-returns c = cc
+returns c =
+    let b = c .before in
+    rw (← b .before .before .get .ensures, ← b .before .get2 .ensures, ← b .get3 .ensures) (c .all-zero .ensures)
 
 pub is-unlinked-spec : {M : Type 1} → statement M
 is-unlinked-spec =
