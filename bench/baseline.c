@@ -6,16 +6,35 @@
 #include <string.h>
 
 #define LAST_SECOND 3534451199u
+#define NOT_SOUND UINT32_MAX    /* no slot: what the check gives of a table that is not sound */
+
+/* A function that is compiled into each of its callers, with the constants that they give, and one that is kept apart. */
+#define ALWAYS_INLINE static inline __attribute__((always_inline))
+#define NEVER_INLINE static __attribute__((noinline))
 
 enum { FIRST_YEAR = 1988, LAST_YEAR = 2099, LEAP_CYCLE = 4, DAYS_OF_CYCLE = 1461, DAYS_OF_YEAR = 365 };
 enum { MINUTE = 60, HOUR = 3600, DAY = 86400 };
 
-enum { IDLE_OF_WAITING = TICKING - IDLE_TICKING };      /* but for periodic ones */
+/* From the kind of a waiting timer, but for periodic ones, to that of an idle one, and for server timers of a queued one. */
+enum { IDLE_OF_WAITING = TICKING - IDLE_TICKING, QUEUED_OF_WAITING = QUEUED_TICKING - SERVER_TICKING };
 
-/* What a timer of each kind becomes when it stops, and as what a reset starts it; 0 where it does not. */
-static const uint8_t stopped[] = {FREE, NEVER_STARTED, IDLE_TICKING, IDLE_DATED, IDLE_TICKING, IDLE_DATED, IDLE_PERIODIC,
-                                  IDLE_PERIODIC};
-static const uint8_t restarted[] = {0, 0, TICKING, 0, TICKING, 0, PERIODIC, PERIODIC};
+/* By kind: the header's word where the chain of such a timer begins, 0 if it is in none; what one that is in a chain becomes
+ * when it stops; and as what a reset starts it, 0 if it does not. */
+static const uint8_t chain_of[KINDS] = {
+    [TICKING] = FIRST_TICKING, [PERIODIC] = FIRST_TICKING, [SERVER_TICKING] = FIRST_TICKING,
+    [DATED] = FIRST_DATED, [SERVER_DATED] = FIRST_DATED,
+    [QUEUED_TICKING] = FIRST_QUEUED, [QUEUED_DATED] = FIRST_QUEUED,
+};
+static const uint8_t stopped[KINDS] = {
+    [TICKING] = IDLE_TICKING, [DATED] = IDLE_DATED, [PERIODIC] = IDLE_PERIODIC,
+    [SERVER_TICKING] = SERVER_IDLE_TICKING, [SERVER_DATED] = SERVER_IDLE_DATED,
+    [QUEUED_TICKING] = SERVER_IDLE_TICKING, [QUEUED_DATED] = SERVER_IDLE_DATED,
+};
+static const uint8_t restarted[KINDS] = {
+    [IDLE_TICKING] = TICKING, [TICKING] = TICKING,
+    [PERIODIC] = PERIODIC, [IDLE_PERIODIC] = PERIODIC,
+    [SERVER_IDLE_TICKING] = SERVER_TICKING, [SERVER_TICKING] = SERVER_TICKING, [QUEUED_TICKING] = SERVER_TICKING,
+};
 
 /* Days before each month of a common and of a leap year, and the whole year's. */
 static const uint16_t days_before[2][13] = {
@@ -25,12 +44,12 @@ static const uint16_t days_before[2][13] = {
 
 static inline uint32_t *slot(uint32_t *table, uint32_t index)
 {
-    return table + HEADER_WORDS + (size_t)SLOT_WORDS * (index - 1);
+    return table + (HEADER_WORDS - SLOT_WORDS) + (size_t)SLOT_WORDS * index;
 }
 
 static inline const uint32_t *slot_of(const uint32_t *table, uint32_t index)
 {
-    return table + HEADER_WORDS + (size_t)SLOT_WORDS * (index - 1);
+    return table + (HEADER_WORDS - SLOT_WORDS) + (size_t)SLOT_WORDS * index;
 }
 
 /* Two words next to each other, for comparing both with zero at once. */
@@ -39,12 +58,6 @@ static inline uint64_t pair(const uint32_t *words)
     uint64_t both;
     memcpy(&both, words, sizeof both);
     return both;
-}
-
-/* Of kind 4 or 6. */
-static inline bool waits_for_ticks(const uint32_t *s)
-{
-    return (s[KIND] & ~(uint32_t)(TICKING ^ PERIODIC)) == TICKING;
 }
 
 static inline bool header_sound(const uint32_t *table, size_t words)
@@ -61,7 +74,7 @@ static inline bool header_sound(const uint32_t *table, size_t words)
         return false;
     if (table[CLOCK_TICKS] >= table[TICKS_PER_SECOND])
         return false;
-    if (table[ZEROS] | table[ZEROS + 1] | table[ZEROS + 2])
+    if (table[ZERO] != 0)
         return false;
     if (table[FIRST_TICKING] != 0 && table[FIRST_TICKING] == table[FIRST_DATED])
         return false;
@@ -77,8 +90,9 @@ struct walk {
 };
 
 /* One step along the interval chain. Ticks left from 1 up to the interval make the interval 1 or more besides. The kind
- * need not be looked at: of other kinds only 2 and 7 have an interval, and their wait and previous link are 0, so that they
- * neither are the first here nor come after another. */
+ * need not be looked at: of other kinds only 2, 7, 8 and 12 have an interval, and their wait is 0, so that they are not the
+ * first here; nor do they come after another, since the previous link of idle ones is 0, and those of queued ones lead to
+ * the first of the queue, which is queued. */
 static inline bool step_ticking(const uint32_t *table, struct walk *walk)
 {
     if (walk->at - 1 >= table[SLOTS])
@@ -97,8 +111,8 @@ static inline bool step_ticking(const uint32_t *table, struct walk *walk)
 }
 
 /* One step along the dated chain. Nor is the kind looked at here: chains with two first slots share none, so no slot of
- * kind 4 or 6 comes, and of the others that do not wait for a date none has a wait that is not 0. Dates never fall, so the
- * last one alone is held against the last second, at the end. */
+ * kind 4, 6 or 10 comes, and of the others that do not wait for a date none has a wait that is not 0. Dates never fall, so
+ * the last one alone is held against the last second, at the end. */
 static inline bool step_dated(const uint32_t *table, struct walk *walk)
 {
     if (walk->at - 1 >= table[SLOTS])
@@ -114,42 +128,89 @@ static inline bool step_dated(const uint32_t *table, struct walk *walk)
     return true;
 }
 
-/* The slot's own words; a waiting one pays for one step along its kind's chain. */
-static inline bool slot_sound(const uint32_t *table, const uint32_t *s, struct walk *ticking, struct walk *dated)
+/* One step along the queue. Here the kind is looked at, or a waiting timer whose wait is 0 could stand in for a queued one. */
+static inline bool step_queued(const uint32_t *table, struct walk *walk)
 {
-    if (s[KIND] <= NEVER_STARTED) {
+    if (walk->at - 1 >= table[SLOTS])
+        return false;
+    const uint32_t *s = slot_of(table, walk->at);
+    if (s[PREVIOUS] != walk->previous)
+        return false;
+    if (s[KIND] < QUEUED_TICKING)
+        return false;
+    walk->previous = walk->at;
+    walk->at = s[NEXT];
+    return true;
+}
+
+/* One walk along each chain. */
+struct walks {
+    struct walk ticking, dated, queued;
+};
+
+/* The slot's own words; one in a chain pays for one step along it. There are server timers only where the server is
+ * initiated, and the caller says whether it is: without it no time is lost on their kinds. */
+ALWAYS_INLINE bool slot_sound(const uint32_t *table, const uint32_t *s, bool server, struct walks *walks)
+{
+    uint32_t kind = s[KIND];
+    if (kind <= NEVER_STARTED) {
         if (pair(s + INTERVAL) | pair(s + ROUTINE) | pair(s + NEXT))
             return false;
-        return (s[NAME] != 0) == s[KIND];
+        return (s[NAME] != 0) == kind;
     }
     if (s[NAME] == 0 || s[ROUTINE] == 0)
         return false;
-    if (waits_for_ticks(s))
-        return step_ticking(table, ticking);
-    if (s[KIND] == DATED)
-        return s[INTERVAL] == 0 && step_dated(table, dated);
+    if (kind == TICKING || kind == PERIODIC || (server && kind == SERVER_TICKING))
+        return step_ticking(table, &walks->ticking);
+    if (kind == DATED || (server && kind == SERVER_DATED))
+        return s[INTERVAL] == 0 && step_dated(table, &walks->dated);
+    if (server && (kind == QUEUED_TICKING || kind == QUEUED_DATED)) {
+        if (s[WAIT] != 0 || (s[INTERVAL] == 0) != (kind == QUEUED_DATED))
+            return false;
+        return step_queued(table, &walks->queued);
+    }
     if (s[WAIT] | pair(s + NEXT))
         return false;
-    if (s[KIND] > IDLE_PERIODIC)
+    if (kind > (server ? SERVER_IDLE_DATED : IDLE_PERIODIC))
         return false;
-    return (s[INTERVAL] == 0) == (s[KIND] == IDLE_DATED);
+    return (s[INTERVAL] == 0) == (kind == IDLE_DATED || (server && kind == SERVER_IDLE_DATED));
 }
 
 /* One pass over the slots, and with it one along each chain. Previous links that fit let no slot come twice, so as many
- * steps as slots of the kind, ending at 0, meet each of them once. */
-static bool sound(const uint32_t *table, size_t words)
+ * steps as slots of the kind, ending at 0, meet each of them once. Gives the last slot of the queue, 0 if it is empty. */
+ALWAYS_INLINE uint32_t check_slots(const uint32_t *table, bool server)
 {
-    if (!header_sound(table, words))
-        return false;
-    struct walk ticking = {table[FIRST_TICKING], 0, 0};
-    struct walk dated = {table[FIRST_DATED], 0, (uint64_t)table[SECONDS] + 1};
+    struct walks walks = {{table[FIRST_TICKING], 0, 0}, {table[FIRST_DATED], 0, (uint64_t)table[SECONDS] + 1},
+                          {server ? table[FIRST_QUEUED] : 0, 0, 0}};
     const uint32_t *end = table + HEADER_WORDS + SLOT_WORDS * table[SLOTS];
     for (const uint32_t *s = table + HEADER_WORDS; s < end; s += SLOT_WORDS)
-        if (!slot_sound(table, s, &ticking, &dated))
-            return false;
-    if (ticking.at | dated.at)
-        return false;
-    return dated.previous == 0 || dated.reached <= LAST_SECOND;
+        if (!slot_sound(table, s, server, &walks))
+            return NOT_SOUND;
+    if (walks.ticking.at | walks.dated.at | walks.queued.at)
+        return NOT_SOUND;
+    if (walks.dated.previous != 0 && walks.dated.reached > LAST_SECOND)
+        return NOT_SOUND;
+    return walks.queued.previous;
+}
+
+NEVER_INLINE uint32_t check_server_slots(const uint32_t *table)
+{
+    return check_slots(table, true);
+}
+
+/* The check before every call. It gives the last slot of the queue, 0 if it is empty, so that an append is one step. */
+static uint32_t check(const uint32_t *table, size_t words)
+{
+    if (!header_sound(table, words))
+        return NOT_SOUND;
+    if (table[SERVER] | table[FIRST_QUEUED])
+        return table[SERVER] == 1 ? check_server_slots(table) : NOT_SOUND;
+    return check_slots(table, false);
+}
+
+static inline bool sound(const uint32_t *table, size_t words)
+{
+    return check(table, words) != NOT_SOUND;
 }
 
 /* The slot of the timer that the id names; 0 if it names none. */
@@ -214,20 +275,22 @@ static void date_of(uint32_t seconds, struct hc_wall_time *time)
     time->second = rest % MINUTE;
 }
 
-/* A waiting timer becomes idle of its kind and leaves its chain; any other stays. */
-static void stop(uint32_t *table, uint32_t index)
+/* A waiting or queued timer becomes idle of its kind and leaves its chain; any other stays. In the queue the wait that the
+ * follower takes over is 0. */
+ALWAYS_INLINE void stop(uint32_t *table, uint32_t index)
 {
     uint32_t *s = slot(table, index);
-    if (s[KIND] < TICKING || s[KIND] > PERIODIC)
+    uint32_t chain = chain_of[s[KIND]];
+    if (chain == 0)
         return;
     uint32_t next = s[NEXT], previous = s[PREVIOUS];
-    uint32_t *link = s[KIND] == DATED ? &table[FIRST_DATED] : &table[FIRST_TICKING];
+    uint32_t *link = &table[chain];
     if (previous)
         link = &slot(table, previous)[NEXT];
     *link = next;
     if (next) {
         slot(table, next)[PREVIOUS] = previous;
-        if (s[KIND] != DATED)
+        if (chain != FIRST_DATED)
             slot(table, next)[WAIT] += s[WAIT];
     }
     s[KIND] = stopped[s[KIND]];
@@ -272,8 +335,8 @@ static void start_ticking(uint32_t *table, uint32_t index, uint32_t kind, uint32
     slot(table, index)[INTERVAL] = ticks;
 }
 
-/* An idle timer waits for a date, behind every one of the same date. */
-static void start_dated(uint32_t *table, uint32_t index, uint32_t date)
+/* An idle timer waits for a date, as this kind, behind every one of the same date. */
+static void start_dated(uint32_t *table, uint32_t index, uint32_t kind, uint32_t date)
 {
     uint32_t previous = 0, next = table[FIRST_DATED];
     while (next && slot(table, next)[WAIT] <= date) {
@@ -281,7 +344,7 @@ static void start_dated(uint32_t *table, uint32_t index, uint32_t date)
         next = slot(table, next)[NEXT];
     }
     link_between(table, FIRST_DATED, previous, index, next);
-    slot(table, index)[KIND] = DATED;
+    slot(table, index)[KIND] = kind;
     slot(table, index)[INTERVAL] = 0;
     slot(table, index)[WAIT] = date;
 }
@@ -300,25 +363,43 @@ static void go_back(uint32_t *table, const uint8_t *periodic, uint32_t count)
     }
 }
 
-/* Fires the chain's timers whose wait is no more than due, and gives how many; the list begins at fired. */
-static inline uint32_t fire(uint32_t *table, uint32_t first, uint32_t due, uint32_t *fired)
+static inline void write_entry(uint32_t *entry, uint32_t index, const uint32_t *s)
+{
+    entry[0] = ID_BASE + index;
+    entry[1] = s[ROUTINE];
+    entry[2] = s[DATA];
+}
+
+/* A server timer that has come off goes behind the last slot of the queue. */
+static inline void enqueue(uint32_t *table, uint32_t index, uint32_t *last_queued)
+{
+    slot(table, index)[KIND] += QUEUED_OF_WAITING;
+    link_between(table, FIRST_QUEUED, *last_queued, index, 0);
+    *last_queued = index;
+}
+
+/* Fires the chain's timers whose wait is no more than due, and gives how many are listed; the list begins at fired. Server
+ * timers are queued instead; the caller says whether there may be any. */
+ALWAYS_INLINE uint32_t fire(uint32_t *table, uint32_t first, uint32_t due, bool server, uint32_t *last_queued,
+                            uint32_t *fired)
 {
     uint8_t periodic[MAX_SLOTS];
     uint32_t index = table[first], count = 0, periodics = 0;
     while (index && slot(table, index)[WAIT] <= due) {
-        uint32_t *s = slot(table, index);
-        fired[FIRED_WORDS * count] = ID_BASE + index;
-        fired[FIRED_WORDS * count + 1] = s[ROUTINE];
-        fired[FIRED_WORDS * count + 2] = s[DATA];
-        count++;
-        if (first == FIRST_TICKING && s[KIND] == PERIODIC)
-            periodic[periodics++] = (uint8_t)index;
-        else
-            s[KIND] -= IDLE_OF_WAITING;
-        index = s[NEXT];
+        uint32_t *s = slot(table, index), next = s[NEXT];
         s[WAIT] = 0;
         s[NEXT] = 0;
         s[PREVIOUS] = 0;
+        if (server && s[KIND] >= SERVER_TICKING) {
+            enqueue(table, index, last_queued);
+        } else {
+            write_entry(fired + FIRED_WORDS * count++, index, s);
+            if (first == FIRST_TICKING && s[KIND] == PERIODIC)
+                periodic[periodics++] = (uint8_t)index;
+            else
+                s[KIND] -= IDLE_OF_WAITING;
+        }
+        index = next;
     }
     table[first] = index;
     if (index)
@@ -411,12 +492,14 @@ uint32_t CALL(delete)(uint32_t *table, size_t words, uint32_t id)
     return HC_SUCCESSFUL;
 }
 
-/* Fire after, or fire every, by the kind of timer that waits then. */
+/* Fire after, fire every or server fire after, by the kind of timer that waits then. */
 static inline uint32_t fire_ticks(uint32_t *table, size_t words, uint32_t id, uint32_t kind, uint32_t ticks,
                                   uint32_t routine, uint32_t data)
 {
     if (!sound(table, words))
         return HC_NOT_SOUND;
+    if (kind == SERVER_TICKING && !table[SERVER])
+        return HC_INCORRECT_STATE;
     if (ticks == 0)
         return HC_INVALID_NUMBER;
     if (routine == 0)
@@ -431,16 +514,14 @@ static inline uint32_t fire_ticks(uint32_t *table, size_t words, uint32_t id, ui
     return HC_SUCCESSFUL;
 }
 
-uint32_t CALL(fire_after)(uint32_t *table, size_t words, uint32_t id, uint32_t ticks, uint32_t routine, uint32_t data)
-{
-    return fire_ticks(table, words, id, TICKING, ticks, routine, data);
-}
-
-uint32_t CALL(fire_when)(uint32_t *table, size_t words, uint32_t id, const struct hc_wall_time *when, uint32_t routine,
-                         uint32_t data)
+/* Fire when or server fire when. */
+static inline uint32_t fire_date(uint32_t *table, size_t words, uint32_t id, uint32_t kind, const struct hc_wall_time *when,
+                                 uint32_t routine, uint32_t data)
 {
     if (!sound(table, words))
         return HC_NOT_SOUND;
+    if (kind == SERVER_DATED && !table[SERVER])
+        return HC_INCORRECT_STATE;
     if (!table[CLOCK_SET])
         return HC_NOT_DEFINED;
     if (routine == 0)
@@ -456,8 +537,19 @@ uint32_t CALL(fire_when)(uint32_t *table, size_t words, uint32_t id, const struc
     stop(table, index);
     slot(table, index)[ROUTINE] = routine;
     slot(table, index)[DATA] = data;
-    start_dated(table, index, date);
+    start_dated(table, index, kind, date);
     return HC_SUCCESSFUL;
+}
+
+uint32_t CALL(fire_after)(uint32_t *table, size_t words, uint32_t id, uint32_t ticks, uint32_t routine, uint32_t data)
+{
+    return fire_ticks(table, words, id, TICKING, ticks, routine, data);
+}
+
+uint32_t CALL(fire_when)(uint32_t *table, size_t words, uint32_t id, const struct hc_wall_time *when, uint32_t routine,
+                         uint32_t data)
+{
+    return fire_date(table, words, id, DATED, when, routine, data);
 }
 
 uint32_t CALL(fire_every)(uint32_t *table, size_t words, uint32_t id, uint32_t ticks, uint32_t routine, uint32_t data)
@@ -488,7 +580,7 @@ uint32_t CALL(ticks_left)(const uint32_t *table, size_t words, uint32_t id, uint
     uint32_t index = named(table, id);
     if (index == 0)
         return HC_INVALID_ID;
-    if (!waits_for_ticks(slot_of(table, index)))
+    if (chain_of[slot_of(table, index)[KIND]] != FIRST_TICKING)
         return HC_SUCCESSFUL;
     uint32_t left = 0;
     for (uint32_t i = index; i; i = slot_of(table, i)[PREVIOUS])
@@ -497,20 +589,33 @@ uint32_t CALL(ticks_left)(const uint32_t *table, size_t words, uint32_t id, uint
     return HC_SUCCESSFUL;
 }
 
-uint32_t CALL(tick)(uint32_t *table, size_t words, uint32_t *fired, size_t fired_words, uint32_t *count)
+/* What a tick does, where there may be server timers or not; gives how many are listed. */
+ALWAYS_INLINE uint32_t pass_tick(uint32_t *table, bool server, uint32_t last_queued, uint32_t *fired)
 {
-    *count = 0;
-    if (!sound(table, words))
-        return HC_NOT_SOUND;
-    if (fired_words < FIRED_WORDS * table[SLOTS])
-        return HC_LIST_TOO_SHORT;
     uint32_t done = 0;
     if (table[FIRST_TICKING]) {
         slot(table, table[FIRST_TICKING])[WAIT]--;
-        done = fire(table, FIRST_TICKING, 0, fired);
+        done = fire(table, FIRST_TICKING, 0, server, &last_queued, fired);
     }
     if (advance_clock(table))
-        done += fire(table, FIRST_DATED, table[SECONDS], fired + FIRED_WORDS * done);
+        done += fire(table, FIRST_DATED, table[SECONDS], server, &last_queued, fired + FIRED_WORDS * done);
+    return done;
+}
+
+NEVER_INLINE uint32_t pass_server_tick(uint32_t *table, uint32_t last_queued, uint32_t *fired)
+{
+    return pass_tick(table, true, last_queued, fired);
+}
+
+uint32_t CALL(tick)(uint32_t *table, size_t words, uint32_t *fired, size_t fired_words, uint32_t *count)
+{
+    *count = 0;
+    uint32_t last_queued = check(table, words);
+    if (last_queued == NOT_SOUND)
+        return HC_NOT_SOUND;
+    if (fired_words < FIRED_WORDS * table[SLOTS])
+        return HC_LIST_TOO_SHORT;
+    uint32_t done = table[SERVER] ? pass_server_tick(table, last_queued, fired) : pass_tick(table, false, 0, fired);
     *count = done;
     return HC_SUCCESSFUL;
 }
@@ -519,7 +624,8 @@ uint32_t CALL(set_clock)(uint32_t *table, size_t words, const struct hc_wall_tim
                          size_t fired_words, uint32_t *count)
 {
     *count = 0;
-    if (!sound(table, words))
+    uint32_t last_queued = check(table, words);
+    if (last_queued == NOT_SOUND)
         return HC_NOT_SOUND;
     if (fired_words < FIRED_WORDS * table[SLOTS])
         return HC_LIST_TOO_SHORT;
@@ -528,7 +634,7 @@ uint32_t CALL(set_clock)(uint32_t *table, size_t words, const struct hc_wall_tim
     table[CLOCK_SET] = 1;
     table[SECONDS] = seconds_of(now);
     table[CLOCK_TICKS] = 0;
-    *count = fire(table, FIRST_DATED, table[SECONDS], fired);
+    *count = fire(table, FIRST_DATED, table[SECONDS], true, &last_queued, fired);
     return HC_SUCCESSFUL;
 }
 
@@ -541,6 +647,45 @@ uint32_t CALL(get_clock)(const uint32_t *table, size_t words, struct hc_wall_tim
         return HC_NOT_DEFINED;
     date_of(table[SECONDS], now);
     now->ticks = table[CLOCK_TICKS];
+    return HC_SUCCESSFUL;
+}
+
+uint32_t CALL(initiate_server)(uint32_t *table, size_t words)
+{
+    if (!sound(table, words))
+        return HC_NOT_SOUND;
+    if (table[SERVER])
+        return HC_INCORRECT_STATE;
+    table[SERVER] = 1;
+    return HC_SUCCESSFUL;
+}
+
+uint32_t CALL(server_fire_after)(uint32_t *table, size_t words, uint32_t id, uint32_t ticks, uint32_t routine, uint32_t data)
+{
+    return fire_ticks(table, words, id, SERVER_TICKING, ticks, routine, data);
+}
+
+uint32_t CALL(server_fire_when)(uint32_t *table, size_t words, uint32_t id, const struct hc_wall_time *when,
+                                uint32_t routine, uint32_t data)
+{
+    return fire_date(table, words, id, SERVER_DATED, when, routine, data);
+}
+
+uint32_t CALL(serve)(uint32_t *table, size_t words, uint32_t *served, size_t served_words, uint32_t *count)
+{
+    *count = 0;
+    if (!sound(table, words))
+        return HC_NOT_SOUND;
+    if (served_words < HC_SERVED_WORDS)
+        return HC_LIST_TOO_SHORT;
+    if (!table[SERVER])
+        return HC_INCORRECT_STATE;
+    uint32_t index = table[FIRST_QUEUED];
+    if (index == 0)
+        return HC_SUCCESSFUL;
+    write_entry(served, index, slot(table, index));
+    stop(table, index);
+    *count = 1;
     return HC_SUCCESSFUL;
 }
 

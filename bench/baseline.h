@@ -13,10 +13,13 @@
 
 /* Limits, header words, slot words and kinds; include/heathcinder.h draws the table. */
 enum { MAX_SLOTS = 255, MAX_TICKS_PER_SECOND = 1000, FIRED_WORDS = 3 };
-enum { SLOTS, TICKS_PER_SECOND, CLOCK_SET, SECONDS, CLOCK_TICKS, FIRST_TICKING, FIRST_DATED, ZEROS };
+enum { SLOTS, TICKS_PER_SECOND, CLOCK_SET, SECONDS, CLOCK_TICKS, FIRST_TICKING, FIRST_DATED, ZERO, SERVER, FIRST_QUEUED };
 enum { HEADER_WORDS = 10, SLOT_WORDS = 8 };
 enum { KIND, NAME, INTERVAL, WAIT, ROUTINE, DATA, NEXT, PREVIOUS };
-enum { FREE, NEVER_STARTED, IDLE_TICKING, IDLE_DATED, TICKING, DATED, PERIODIC, IDLE_PERIODIC };
+enum {
+    FREE, NEVER_STARTED, IDLE_TICKING, IDLE_DATED, TICKING, DATED, PERIODIC, IDLE_PERIODIC, SERVER_IDLE_TICKING,
+    SERVER_IDLE_DATED, SERVER_TICKING, SERVER_DATED, QUEUED_TICKING, QUEUED_DATED, KINDS
+};
 #define ID_BASE 0x12010000u
 enum { JOB_WORDS = 2, LAST_BENCH = 4, MAX_JOB_TICKS = 1000000 };
 
@@ -35,6 +38,11 @@ uint32_t CALL(tick)(uint32_t *table, size_t words, uint32_t *fired, size_t fired
 uint32_t CALL(set_clock)(uint32_t *table, size_t words, const struct hc_wall_time *now, uint32_t *fired,
                          size_t fired_words, uint32_t *count);
 uint32_t CALL(get_clock)(const uint32_t *table, size_t words, struct hc_wall_time *now);
+uint32_t CALL(initiate_server)(uint32_t *table, size_t words);
+uint32_t CALL(server_fire_after)(uint32_t *table, size_t words, uint32_t id, uint32_t ticks, uint32_t routine, uint32_t data);
+uint32_t CALL(server_fire_when)(uint32_t *table, size_t words, uint32_t id, const struct hc_wall_time *when,
+                                uint32_t routine, uint32_t data);
+uint32_t CALL(serve)(uint32_t *table, size_t words, uint32_t *served, size_t served_words, uint32_t *count);
 uint32_t CALL(plan_check)(const uint32_t *jobs, size_t job_words, uint32_t break_ticks, const uint32_t *starts, size_t count);
 uint32_t CALL(plan)(const uint32_t *jobs, size_t job_words, uint32_t break_ticks, uint32_t *starts, size_t starts_words);
 

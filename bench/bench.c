@@ -4,13 +4,10 @@
  * sides must answer the same and leave the same words.
  * Argument: rounds. */
 #define _DEFAULT_SOURCE
-#include "baseline.h"
+#include "timing.h"
 
-#include <inttypes.h>
-#include <stdio.h>
-#include <stdlib.h>
+#include <stdbool.h>
 #include <string.h>
-#include <time.h>
 
 enum { WORDS = HC_TABLE_WORDS(MAX_SLOTS), LIST = HC_LIST_WORDS(MAX_SLOTS), RATE = 100, ROUTINE_NUMBER = 7, NEW_NAME = 7777 };
 #define ID(index) (ID_BASE + (index))
@@ -31,16 +28,21 @@ struct side {
     uint32_t (*tick)(uint32_t *, size_t, uint32_t *, size_t, uint32_t *);
     uint32_t (*set_clock)(uint32_t *, size_t, const struct hc_wall_time *, uint32_t *, size_t, uint32_t *);
     uint32_t (*get_clock)(const uint32_t *, size_t, struct hc_wall_time *);
+    uint32_t (*initiate_server)(uint32_t *, size_t);
+    uint32_t (*server_fire_after)(uint32_t *, size_t, uint32_t, uint32_t, uint32_t, uint32_t);
+    uint32_t (*server_fire_when)(uint32_t *, size_t, uint32_t, const struct hc_wall_time *, uint32_t, uint32_t);
+    uint32_t (*serve)(uint32_t *, size_t, uint32_t *, size_t, uint32_t *);
 };
 
 static const struct side library = {hc_lay_out, hc_create, hc_ident, hc_cancel, hc_delete, hc_fire_after,
                                     hc_fire_when, hc_fire_every, hc_reset, hc_ticks_left, hc_tick, hc_set_clock,
-                                    hc_get_clock};
+                                    hc_get_clock, hc_initiate_server, hc_server_fire_after, hc_server_fire_when,
+                                    hc_serve};
 static const struct side plain = {plain_lay_out, plain_create, plain_ident, plain_cancel, plain_delete, plain_fire_after,
                                   plain_fire_when, plain_fire_every, plain_reset, plain_ticks_left, plain_tick,
-                                  plain_set_clock, plain_get_clock};
+                                  plain_set_clock, plain_get_clock, plain_initiate_server, plain_server_fire_after,
+                                  plain_server_fire_when, plain_serve};
 
-/* Calls that do nothing. Their time is what the loop and the way into a call take, and is taken off from both others. */
 static uint32_t no_change(uint32_t *t, size_t n, uint32_t id) { return (void)t, (void)n, (void)id, 0; }
 static uint32_t no_answer(const uint32_t *t, size_t n, uint32_t x, uint32_t *a)
 {
@@ -65,9 +67,12 @@ static uint32_t no_set_clock(uint32_t *t, size_t n, const struct hc_wall_time *w
     return (void)t, (void)n, (void)w, (void)l, (void)m, (void)a, 0;
 }
 static uint32_t no_get_clock(const uint32_t *t, size_t n, struct hc_wall_time *w) { return (void)t, (void)n, (void)w, 0; }
+static uint32_t no_initiate(uint32_t *t, size_t n) { return (void)t, (void)n, 0; }
 
 static const struct side nothing = {no_lay_out, no_create, no_answer, no_change, no_change, no_fire_after, no_fire_when,
-                                    no_fire_after, no_change, no_answer, no_tick, no_set_clock, no_get_clock};
+                                    no_fire_after, no_change, no_answer, no_tick, no_set_clock, no_get_clock, no_initiate,
+                                    no_fire_after, no_fire_when, no_tick};
+static const struct sides sides = {&library, &plain, &nothing};
 
 /* ---- What every case works on: the table, the answers, and the timers it is about ---- */
 
@@ -76,7 +81,7 @@ static struct hc_wall_time now_answer;
 static const struct hc_wall_time present = {2024, 2, 29, 12, 0, 0, 0};
 static struct hc_wall_time dates[MAX_SLOTS + 1];    /* for which each timer was last started */
 static uint32_t slots, words;
-static uint32_t ticking, dated, idle;               /* in the middle of their chain, or started into it */
+static uint32_t ticking, dated, queued, idle;       /* in the middle of their chain, or started into it */
 static uint32_t ticks_to_start, ticking_last, name_amid;
 
 static uint32_t do_lay_out(const struct side *s) { return s->lay_out(table, words, slots, RATE); }
@@ -102,6 +107,17 @@ static uint32_t do_last_ticks_left(const struct side *s) { return s->ticks_left(
 static uint32_t do_tick(const struct side *s) { return s->tick(table, words, list, LIST, &answer); }
 static uint32_t do_set_clock(const struct side *s) { return s->set_clock(table, words, &dates[dated], list, LIST, &answer); }
 static uint32_t do_get_clock(const struct side *s) { return s->get_clock(table, words, &now_answer); }
+static uint32_t do_initiate_server(const struct side *s) { return s->initiate_server(table, words); }
+static uint32_t do_server_fire_after(const struct side *s)
+{
+    return s->server_fire_after(table, words, ID(ticking), ticks_to_start, ROUTINE_NUMBER, 0);
+}
+static uint32_t do_server_fire_when(const struct side *s)
+{
+    return s->server_fire_when(table, words, ID(dated), &dates[dated], ROUTINE_NUMBER, 0);
+}
+static uint32_t do_serve(const struct side *s) { return s->serve(table, words, list, HC_SERVED_WORDS, &answer); }
+static uint32_t do_cancel_queued(const struct side *s) { return s->cancel(table, words, ID(queued)); }
 
 static uint32_t *slot(uint32_t index)
 {
@@ -164,10 +180,15 @@ static void start_far(uint32_t index)
     start_ticks(index, 2 + below(4 * slots));
 }
 
-static void start_date(uint32_t index)
+static void choose_date(uint32_t index)
 {
     dates[index] = present;
     dates[index].minute = 1 + below(50), dates[index].second = below(60);
+}
+
+static void start_date(uint32_t index)
+{
+    choose_date(index);
     must("fire when", plain_fire_when(table, words, ID(index), &dates[index], ROUTINE_NUMBER, index));
 }
 
@@ -201,13 +222,53 @@ static void start_every_fourth(uint32_t index)
         start_ticks(index, 12 + below(4 * slots));
 }
 
-/* Of eight slots one is free, one never started, two idle, two wait for ticks and two for a date; or all wait for ticks, each
- * for its own; or all for the next tick; or all are periodic with one interval, or a quarter of them. */
-static const struct filling {
-    const char *name;
-    void (*start)(uint32_t index);
-} mixed = {"mixed", start_mixed}, full = {"full", start_far}, due = {"due", start_at_once},
-  periodic = {"periodic", start_every}, quarter = {"quarter", start_every_fourth};
+static void start_server_ticks(uint32_t index, uint32_t ticks)
+{
+    must("server fire after", plain_server_fire_after(table, words, ID(index), ticks, ROUTINE_NUMBER, index));
+}
+
+static void start_server_far(uint32_t index) { start_server_ticks(index, 2 + below(4 * slots)); }
+static void start_server_at_once(uint32_t index) { start_server_ticks(index, 1); }
+
+static void start_server_date(uint32_t index)
+{
+    choose_date(index);
+    must("server fire when", plain_server_fire_when(table, words, ID(index), &dates[index], ROUTINE_NUMBER, index));
+}
+
+/* The others are due later. */
+static void start_server_fourth(uint32_t index)
+{
+    if (index % 4 == 0)
+        start_server_at_once(index);
+    else
+        start_far(index);
+}
+
+/* When a tick has passed, all but one are queued, and that one is due at the next. */
+static void start_queued(uint32_t index)
+{
+    start_server_ticks(index, index < slots ? 1 : 2);
+}
+
+/* When a tick has passed, one of eight is queued. */
+static void start_mixed_server(uint32_t index)
+{
+    enum { NO_LONGER, NEVER, IDLE, IN_QUEUE, BY_TICKS, BY_DATE, SERVER_BY_TICKS, SERVER_BY_DATE, ROLES };
+    uint32_t role = index % ROLES, far = 3 + below(4 * slots);
+    if (role == BY_TICKS)
+        start_ticks(index, far);
+    if (role == BY_DATE)
+        start_date(index);
+    if (role == IDLE || role == IN_QUEUE || role == SERVER_BY_TICKS)
+        start_server_ticks(index, role == IN_QUEUE ? 1 : far);
+    if (role == SERVER_BY_DATE)
+        start_server_date(index);
+    if (role == IDLE)
+        must("cancel", plain_cancel(table, words, ID(index)));
+    if (role == NO_LONGER)
+        must("delete", plain_delete(table, words, ID(index)));
+}
 
 static uint32_t chain_length(uint32_t first)
 {
@@ -240,13 +301,18 @@ static uint32_t slot_of_kind(uint32_t index, uint32_t least_kind, uint32_t most_
     return index;
 }
 
-/* Restarts go to where the timer in the middle is due; an idle timer gets the same ticks for its reset. The name is that of
- * a slot amid the table. */
+/* Restarts go to where the timer in the middle is due. */
 static void choose_middle(void)
 {
     ticking = nth_of_chain(FIRST_TICKING, chain_length(FIRST_TICKING) / 2);
     dated = nth_of_chain(FIRST_DATED, chain_length(FIRST_DATED) / 2);
     ticks_to_start = left_of(ticking);
+}
+
+/* An idle timer gets the same ticks for its reset. The name is that of a slot amid the table. */
+static void choose_mixed(void)
+{
+    choose_middle();
     name_amid = slot(slot_of_kind(slots / 2, NEVER_STARTED, DATED))[NAME];
     idle = slot_of_kind(1, IDLE_TICKING, IDLE_TICKING);
     start_ticks(idle, ticks_to_start);
@@ -261,6 +327,41 @@ static void choose_worst(void)
     ticks_to_start = left_of(ticking_last) + 1;
 }
 
+static void choose_last_date(void) { dated = nth_of_chain(FIRST_DATED, chain_length(FIRST_DATED) - 1); }
+
+static void pass_tick(void) { must("tick", plain_tick(table, words, list, LIST, &answer)); }
+
+static void choose_mixed_server(void)
+{
+    pass_tick();
+    choose_middle();
+}
+
+static void choose_queued(void)
+{
+    pass_tick();
+    queued = nth_of_chain(FIRST_QUEUED, chain_length(FIRST_QUEUED) / 2);
+}
+
+/* Of eight slots one is free, one never started, two idle, two wait for ticks and two for a date; or all wait for ticks, each
+ * for its own; or all for the next tick; or all are periodic with one interval, or a quarter of them.
+ * With the server: of eight slots one is free, one never started, one idle, one queued, two wait for ticks and two for a
+ * date, one of each two for the server; or all wait for ticks, each for its own; or all for the next tick, or a quarter of
+ * them; or all for a date; or all but one are queued, and that one is due at the next tick. */
+static const struct filling {
+    const char *name;
+    bool server;
+    void (*start)(uint32_t index), (*choose)(void);
+} mixed = {"mixed", false, start_mixed, choose_mixed}, full = {"full", false, start_far, choose_worst},
+  due = {"due", false, start_at_once, choose_worst}, periodic = {"periodic", false, start_every, choose_worst},
+  quarter = {"quarter", false, start_every_fourth, choose_worst},
+  server = {"server", true, start_mixed_server, choose_mixed_server},
+  server_full = {"server full", true, start_server_far, choose_worst},
+  server_due = {"server due", true, start_server_at_once, choose_worst},
+  server_quarter = {"server quarter", true, start_server_fourth, choose_worst},
+  server_dated = {"server dated", true, start_server_date, choose_last_date},
+  in_queue = {"queued", true, start_queued, choose_queued};
+
 static void build(uint32_t how_many, const struct filling *filling)
 {
     uint32_t order[MAX_SLOTS];
@@ -268,29 +369,28 @@ static void build(uint32_t how_many, const struct filling *filling)
     slots = how_many, words = HC_TABLE_WORDS(slots);
     must("lay out", plain_lay_out(table, words, slots, RATE));
     must("set clock", plain_set_clock(table, words, &present, list, LIST, &answer));
+    if (filling->server)
+        must("initiate server", plain_initiate_server(table, words));
     for (uint32_t i = 1; i <= slots; i++)
         must("create", plain_create(table, words, i, &answer));
     shuffle(order);
     for (uint32_t i = 0; i < slots; i++)
         filling->start(order[i]);
-    if (filling == &mixed)
-        choose_middle();
-    else
-        choose_worst();
+    filling->choose();
     memcpy(start_table, table, sizeof table);
 }
 
 static void describe(const struct filling *filling)
 {
-    printf("# %s table, %" PRIu32 " slots: %" PRIu32 " wait for ticks, %" PRIu32 " for a date\n", filling->name, slots,
-           chain_length(FIRST_TICKING), chain_length(FIRST_DATED));
+    printf("# %s table, %" PRIu32 " slots: %" PRIu32 " wait for ticks, %" PRIu32 " for a date, %" PRIu32 " are queued\n",
+           filling->name, slots, chain_length(FIRST_TICKING), chain_length(FIRST_DATED), chain_length(FIRST_QUEUED));
 }
 
 /* ---- Cases ---- */
 
 static const struct bench {
     const char *name;
-    uint32_t (*call)(const struct side *);
+    timed_call *call;
     const struct filling *filling;
     void (*prepare)(void);
 } benches[] = {
@@ -305,32 +405,18 @@ static const struct bench {
     {"tick, a dated timer fires", do_tick, &mixed, next_tick_is_a_date}, {"tick, all fire (due)", do_tick, &due, NULL},
     {"tick, all fire (periodic)", do_tick, &periodic, next_tick_fires},
     {"tick, all periodic fire (quarter)", do_tick, &quarter, next_tick_fires},
-    {"set_clock, half the dated fire", do_set_clock, &mixed, NULL}, {"get_clock", do_get_clock, &mixed, NULL}};
+    {"set_clock, half the dated fire", do_set_clock, &mixed, NULL}, {"get_clock", do_get_clock, &mixed, NULL},
+    {"initiate_server", do_initiate_server, &mixed, NULL}, {"server_fire_after (server)", do_server_fire_after, &server, NULL},
+    {"server_fire_after behind all (server full)", do_server_fire_after, &server_full, NULL},
+    {"server_fire_when (server)", do_server_fire_when, &server, NULL}, {"serve (queued)", do_serve, &in_queue, NULL},
+    {"serve, empty queue (server full)", do_serve, &server_full, NULL},
+    {"cancel of a queued timer (queued)", do_cancel_queued, &in_queue, NULL}, {"tick (server)", do_tick, &server, NULL},
+    {"tick, a timer is queued (queued)", do_tick, &in_queue, NULL},
+    {"tick, all are queued (server due)", do_tick, &server_due, NULL},
+    {"tick, a quarter is queued (server quarter)", do_tick, &server_quarter, NULL},
+    {"set_clock, all are queued (server dated)", do_set_clock, &server_dated, NULL}};
 
-/* ---- Timing ---- */
-
-/* The words that a call changes, with what they were: the loop puts them back, so that every call does the same. */
-static struct { uint32_t word, value; } undo[WORDS];
-static uint32_t undos;
-
-static double now(void)
-{
-    struct timespec t;
-    clock_gettime(CLOCK_MONOTONIC, &t);
-    return (double)t.tv_sec * 1e9 + (double)t.tv_nsec;
-}
-
-static double time_side(const struct bench *bench, const struct side *side, uint32_t repeats)
-{
-    uint32_t (*volatile call)(const struct side *) = bench->call;
-    double start = now();
-    for (uint32_t i = 0; i < repeats; i++) {
-        call(side);
-        for (uint32_t k = 0; k < undos; k++)
-            table[undo[k].word] = undo[k].value;
-    }
-    return (now() - start) / repeats;
-}
+/* ---- Both sides do the same ---- */
 
 /* All that a call can change. */
 struct state {
@@ -366,38 +452,21 @@ static void compare_sides(const struct bench *bench)
     undos = 0;
     for (uint32_t i = 0; i < words && bench->call != do_lay_out; i++)
         if (theirs.table[i] != before.table[i])
-            undo[undos].word = i, undo[undos++].value = before.table[i];
+            undo[undos].word = &table[i], undo[undos++].value = before.table[i];
     if (bench->call != do_lay_out)
         memcpy(table, before.table, sizeof table);
-}
-
-static double least(double a, double b)
-{
-    return a < b ? a : b;
-}
-
-static void measure(const struct bench *bench, uint32_t rounds)
-{
-    double theirs = 1e9, ours = 1e9, loop = 1e9;
-    uint32_t repeats = 4 + 2000 / (slots + 8);
-    compare_sides(bench);
-    for (uint32_t i = 0; i < rounds; i++) {
-        ours = least(ours, time_side(bench, &library, repeats));
-        theirs = least(theirs, time_side(bench, &plain, repeats));
-        loop = least(loop, time_side(bench, &nothing, repeats));
-    }
-    printf("%s\t%" PRIu32 "\t%.2f\t%.2f\n", bench->name, slots, ours - loop, theirs - loop);
 }
 
 int main(int count, char **arguments)
 {
     static const uint32_t sizes[] = {8, 64, 255};
-    uint32_t rounds = count > 1 ? (uint32_t)strtoul(arguments[1], NULL, 10) : 2000;
+    uint32_t rounds = rounds_argument(count, arguments);
     for (size_t i = 0; i < sizeof benches / sizeof *benches; i++)
         for (size_t k = 0; k < sizeof sizes / sizeof *sizes; k++) {
             build(sizes[k], benches[i].filling);
             describe(benches[i].filling);
-            measure(&benches[i], rounds);
+            compare_sides(&benches[i]);
+            measure(benches[i].name, slots, benches[i].call, &sides, rounds);
         }
     return 0;
 }

@@ -8,34 +8,44 @@
  *     word 0  slots N, 1 to 255                    slot word 0  kind
  *          1  ticks in a second T, 1 to 1000                 1  name
  *          2  clock set, 0 or 1                              2  interval in ticks
- *          3  seconds since 1988-01-01 00:00:00              3  wait: ticks after the slot before it in its
- *          4  ticks into the second, below T                    chain (kinds 4, 6), or a date in seconds (kind 5)
+ *          3  seconds since 1988-01-01 00:00:00              3  wait: ticks after the slot before it in its chain
+ *          4  ticks into the second, below T                    (kinds 4, 6, 10), a date in seconds (5, 11), else 0
  *          5  first slot of the interval chain               4  routine
  *          6  first slot of the dated chain                  5  user data
- *          7  to 9: zero                                     6  next slot in its chain
- *         10  slot 1, then the others                        7  previous slot in its chain
+ *          7  zero                                           6  next slot in its chain or in the queue
+ *          8  server initiated, 0 or 1                       7  previous slot in its chain or in the queue
+ *          9  first slot of the queue
+ *         10  slot 1, then the others
  *
- *     kind 0  free                                 kind 4  waiting for ticks
- *          1  never started                             5  waiting for a date
- *          2  idle, last started by interval            6  waiting for ticks, periodic
- *          3  idle, last started by date                7  idle, last started as periodic
+ *     kind 0  free                                 kind 7  idle, last started as periodic
+ *          1  never started                             8  of the server, idle, last started by interval
+ *          2  idle, last started by interval            9  of the server, idle, last started by date
+ *          3  idle, last started by date               10  of the server, waiting for ticks
+ *          4  waiting for ticks                        11  of the server, waiting for a date
+ *          5  waiting for a date                       12  of the server, queued, last started by interval
+ *          6  waiting for ticks, periodic              13  of the server, queued, last started by date
  *
  * A timer's id is 0x12010000 plus its slot index. Words past 10 + 8N are neither read nor changed. Words are in the
  * machine's own byte order and hold no address, so a table may be moved or copied between calls.
  *
  * A table is sound when its words fit together: numbers within the limits above, each waiting timer exactly once in the
- * chain of its kind, links the same from either end, ticks left up to the interval, dates after the present second. Any
- * other table is refused with HC_NOT_SOUND, one that something else has put out of order like one that was never laid out;
- * but words that happen to be sound ({1, 1, 0, ..} are) pass for a table. The whole rule is `sound` in
- * crates/model/specs/Sound.antt.
+ * chain of its kind and each queued one once in the queue, links the same from either end, ticks left up to the interval,
+ * dates after the present second, timers of the server only where it is initiated. Any other table is refused with
+ * HC_NOT_SOUND, one that something else has put out of order like one that was never laid out; but words that happen to be
+ * sound ({1, 1, 0, ..} are) pass for a table. The whole rule is `sound` in crates/model/specs/Sound.antt.
  *
  * A timer that fires is listed: id, routine and user data. The library calls no routine; routine and user data are
  * numbers of the caller's, the routine any but 0.
  *
+ * The server is for routines too long for the interrupt that ticks. A timer started by hc_server_fire_after or
+ * hc_server_fire_when is not listed when it is due: it goes to the back of a queue, from which hc_serve hands out one at a
+ * time. So the interrupt calls hc_tick and runs what is listed; a task calls hc_serve, with the interrupt kept out during
+ * the call, and runs what it is handed.
+ *
  * What the caller must see to:
  *   - No pointer is null, and each is aligned for its type.
  *   - A length is true: that many words may be read, and written where the pointer is not to const.
- *   - The table, the fired list, the wall time and the word for an answer do not overlap.
+ *   - The table, the list, the wall time and the word for an answer do not overlap.
  *   - Nobody else reads or writes them during a call: where an interrupt makes calls on the same table, keep it out.
  *   - There is stack: hc_ticks_left takes 32 bytes for each timer ahead of its own, 8.2 KB at most, hc_plan some 800 bytes,
  *     the other calls some 300. The code is for x86-64, uses SSE registers and the red zone, and needs memset and memcpy;
@@ -57,18 +67,23 @@ extern "C" {
 #define HC_INVALID_ID 4u       /* the id names no timer */
 #define HC_TOO_MANY 5u         /* create: no slot is free */
 #define HC_INVALID_SIZE 8u     /* lay out: fewer than 10 + 8N words; plan: fewer words of list than jobs */
-#define HC_INVALID_ADDRESS 9u  /* fire after, fire when, fire every: routine 0 */
-#define HC_INVALID_NUMBER 10u  /* fire after, fire every: ticks 0; lay out, plan, plan check: a number outside
-                                  its limits; plan check: not one start a job */
-#define HC_NOT_DEFINED 11u     /* fire when, get clock: clock not set; reset: not last started by interval */
+#define HC_INVALID_ADDRESS 9u  /* fire after, fire when, fire every, server fire after, server fire when: routine 0 */
+#define HC_INVALID_NUMBER 10u  /* fire after, fire every, server fire after: ticks 0; lay out, plan, plan check: a number
+                                  outside its limits; plan check: not one start a job */
+#define HC_NOT_DEFINED 11u     /* fire when, server fire when, get clock: clock not set; reset: not last started by
+                                  interval */
 #define HC_UNSATISFIED 13u     /* plan check: the plan does not fit; plan: no plan does */
-#define HC_INVALID_CLOCK 20u   /* set clock, fire when: date not valid; fire when: not after the present second */
+#define HC_INCORRECT_STATE 14u /* initiate server: it is initiated; server fire after, server fire when, serve: it is not */
+#define HC_INVALID_CLOCK 20u   /* set clock, fire when, server fire when: date not valid; the last two: not after the
+                                  present second */
 #define HC_NOT_SOUND 100u      /* any call on a table but lay out: it is not sound */
-#define HC_LIST_TOO_SHORT 101u /* tick, set clock: fewer than 3N words of list */
+#define HC_LIST_TOO_SHORT 101u /* tick, set clock: fewer than 3N words of list; serve: fewer than 3 */
 
-/* Words that a table of so many slots takes, and words of list that a tick or set clock on it needs. */
+/* Words that a table of so many slots takes, words of list that a tick or set clock on it needs, and those that a serve
+ * needs, on any table. */
 #define HC_TABLE_WORDS(slots) (10u + 8u * (slots))
 #define HC_LIST_WORDS(slots) (3u * (slots))
+#define HC_SERVED_WORDS 3u
 
 /* Years 1988 to 2099, months and days from 1; no time zone, no leap seconds. The ticks field is ignored wherever a wall
  * time is given, and filled by hc_get_clock. */
@@ -80,7 +95,7 @@ struct hc_wall_time {
  * first that applies in the order named with the call, else HC_SUCCESSFUL. The answer of a call on a table goes through the
  * last pointer; on a refusal it is 0, and table and list stay as they were. */
 
-/* Makes a table of so many free slots, clock not set; words is the length lent.
+/* Makes a table of so many free slots, clock not set, server not initiated; words is the length lent.
  * HC_INVALID_NUMBER: slots not 1 to 255, or ticks_per_second not 1 to 1000. HC_INVALID_SIZE: fewer than
  * HC_TABLE_WORDS(slots) words. */
 uint32_t hc_lay_out(uint32_t *table, size_t words, uint32_t slots, uint32_t ticks_per_second);
@@ -93,52 +108,55 @@ uint32_t hc_create(uint32_t *table, size_t words, uint32_t name, uint32_t *id);
  * HC_INVALID_NAME: name 0, or no such name. */
 uint32_t hc_ident(const uint32_t *table, size_t words, uint32_t name, uint32_t *id);
 
-/* Stops a waiting timer; any other stays as it is, and that is no refusal.
+/* Stops a waiting timer, or takes a queued one off the queue; any other stays as it is, and that is no refusal.
  * HC_INVALID_ID: the id names no timer. */
 uint32_t hc_cancel(uint32_t *table, size_t words, uint32_t id);
 
-/* Stops the timer if it waits, and frees its slot. Once the slot is taken again, the same id names the new timer.
+/* Stops the timer if it waits, takes it off the queue if it is queued, and frees its slot. Once the slot is taken again,
+ * the same id names the new timer.
  * HC_INVALID_ID: the id names no timer. */
 uint32_t hc_delete(uint32_t *table, size_t words, uint32_t id);
 
-/* Starts the timer, anew if it waits: with ticks n it fires in the nth accepted hc_tick from now, after those that
- * now wait for the same one, whatever the clock does.
+/* Starts the timer, anew if it waits or is queued: with ticks n it fires in the nth accepted hc_tick from now, after those
+ * that now wait for the same one, whatever the clock does.
  * HC_INVALID_NUMBER: ticks 0. HC_INVALID_ADDRESS: routine 0. HC_INVALID_ID: the id names no timer. */
 uint32_t hc_fire_after(uint32_t *table, size_t words, uint32_t id, uint32_t ticks, uint32_t routine,
                        uint32_t data);
 
-/* Starts the timer, anew if it waits: it fires in the first hc_tick or hc_set_clock that leaves the clock at or past
- * that date, after those of the same date.
+/* Starts the timer, anew if it waits or is queued: it fires in the first hc_tick or hc_set_clock that leaves the clock at
+ * or past that date, after those of the same date.
  * HC_NOT_DEFINED: clock not set. HC_INVALID_ADDRESS: routine 0. HC_INVALID_CLOCK: date not valid, or not after the
  * present second. HC_INVALID_ID: the id names no timer. */
 uint32_t hc_fire_when(uint32_t *table, size_t words, uint32_t id, const struct hc_wall_time *when,
                       uint32_t routine, uint32_t data);
 
-/* Starts the timer, anew if it waits, as periodic: with ticks n it fires in every nth accepted hc_tick from now, without
- * drift, until it is cancelled, deleted, reset or started anew, or the table is laid out. Each time, it goes back behind
- * those that then wait for the tick of its next firing.
+/* Starts the timer, anew if it waits or is queued, as periodic: with ticks n it fires in every nth accepted hc_tick from
+ * now, without drift, until it is cancelled, deleted, reset or started anew, or the table is laid out. Each time, it goes
+ * back behind those that then wait for the tick of its next firing.
  * HC_INVALID_NUMBER: ticks 0. HC_INVALID_ADDRESS: routine 0. HC_INVALID_ID: the id names no timer. */
 uint32_t hc_fire_every(uint32_t *table, size_t words, uint32_t id, uint32_t ticks, uint32_t routine,
                        uint32_t data);
 
-/* Starts a timer last started by interval again, once or as periodic as it was, with the same ticks, routine and data.
+/* Starts a timer last started by interval again, once, as periodic or for the server as it was, with the same ticks,
+ * routine and data; if it is queued, it is taken off the queue.
  * HC_INVALID_ID: the id names no timer. HC_NOT_DEFINED: never started, or last started by date. */
 uint32_t hc_reset(uint32_t *table, size_t words, uint32_t id);
 
-/* Answers the ticks until the timer fires; 0 if it does not wait for ticks.
+/* Answers the ticks until the timer fires or, one of the server, is queued; 0 if it does not wait for ticks.
  * HC_INVALID_ID: the id names no timer. */
 uint32_t hc_ticks_left(const uint32_t *table, size_t words, uint32_t id, uint32_t *ticks);
 
 /* One tick passes: interval timers come nearer and those due fire; then the clock, if set, goes on, up to its last tick
  * in 2099, and dated timers that it reaches fire. Writes id, routine and user data of each timer that fires to the list:
  * interval timers first, in the order of their starts, where a periodic one's last going back counts as its start; then
- * dated ones by date, the earlier start first among equals.
- * Answers how many; list words after those stay.
+ * dated ones by date, the earlier start first among equals. Timers of the server that are due go to the back of the queue
+ * in that same order, and are neither listed nor counted.
+ * Answers how many are listed; list words after those stay.
  * HC_LIST_TOO_SHORT: fewer than HC_LIST_WORDS(N) words of list; the tick is not counted. */
 uint32_t hc_tick(uint32_t *table, size_t words, uint32_t *fired, size_t fired_words, uint32_t *count);
 
-/* Sets the clock to the second given, 0 ticks into it. Dated timers at or before it fire now, listed as by hc_tick.
- * Interval timers do not change, and a clock set back moves no date.
+/* Sets the clock to the second given, 0 ticks into it. Dated timers at or before it fire now, listed as by hc_tick, and
+ * those of the server are queued. Interval timers do not change, and a clock set back moves no date.
  * HC_LIST_TOO_SHORT: fewer than HC_LIST_WORDS(N) words of list. HC_INVALID_CLOCK: date not valid. */
 uint32_t hc_set_clock(uint32_t *table, size_t words, const struct hc_wall_time *now, uint32_t *fired,
                       size_t fired_words, uint32_t *count);
@@ -146,6 +164,27 @@ uint32_t hc_set_clock(uint32_t *table, size_t words, const struct hc_wall_time *
 /* Answers the present date and the ticks into its second; all seven are 0 on a refusal.
  * HC_NOT_DEFINED: clock not set. */
 uint32_t hc_get_clock(const uint32_t *table, size_t words, struct hc_wall_time *now);
+
+/* Initiates the server, once after each lay out.
+ * HC_INCORRECT_STATE: it is initiated already. */
+uint32_t hc_initiate_server(uint32_t *table, size_t words);
+
+/* Starts the timer as hc_fire_after does, but for the server: where it would fire it is queued.
+ * HC_INCORRECT_STATE: server not initiated. HC_INVALID_NUMBER: ticks 0. HC_INVALID_ADDRESS: routine 0. HC_INVALID_ID: the
+ * id names no timer. */
+uint32_t hc_server_fire_after(uint32_t *table, size_t words, uint32_t id, uint32_t ticks, uint32_t routine,
+                              uint32_t data);
+
+/* Starts the timer as hc_fire_when does, but for the server: where it would fire it is queued.
+ * HC_INCORRECT_STATE: server not initiated. HC_NOT_DEFINED: clock not set. HC_INVALID_ADDRESS: routine 0.
+ * HC_INVALID_CLOCK: date not valid, or not after the present second. HC_INVALID_ID: the id names no timer. */
+uint32_t hc_server_fire_when(uint32_t *table, size_t words, uint32_t id, const struct hc_wall_time *when,
+                             uint32_t routine, uint32_t data);
+
+/* Takes the timer at the front of the queue off it, which is then idle, and writes its id, routine and user data to the
+ * list. Answers 1, or 0 where none is queued and no word changes; list words after the three stay.
+ * HC_LIST_TOO_SHORT: fewer than HC_SERVED_WORDS words of list. HC_INCORRECT_STATE: server not initiated. */
+uint32_t hc_serve(uint32_t *table, size_t words, uint32_t *served, size_t served_words, uint32_t *count);
 
 /* Packing a break, which takes no table. Jobs are words, two a job: its bench, 1 to 4, and its length in ticks, 1 to
  * 1,000,000; job_words is their number. The break has break_ticks ticks, up to 1,000,000. A plan is one start tick a job,

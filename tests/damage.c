@@ -1,5 +1,6 @@
-/* Damaged tables: one or two words changed, many words at once, or the slice cut short. A table that is no longer sound must
- * be refused with 100 and stay; one that still is must be served as the oracle serves what it reads from it.
+/* Damaged tables: one or two words changed, links that lead elsewhere, many words at once, or the slice cut short. A table
+ * that is no longer sound must be refused with 100 and stay; one that still is must be served as the oracle serves what it
+ * reads from it.
  * Arguments: seed, number of calls. */
 #include "generate.h"
 
@@ -21,10 +22,10 @@ static uint32_t *table;
 
 static uint32_t some_value(uint32_t word)
 {
-    static const uint32_t limits[] = {0, 0, 1, 2, 3, 4, 5, 6, 7, 8, MAX_SLOTS, MAX_SLOTS + 1, MAX_TICKS_PER_SECOND - 1,
+    static const uint32_t limits[] = {1, MAX_SLOTS, MAX_SLOTS + 1, MAX_TICKS_PER_SECOND - 1,
                                       MAX_TICKS_PER_SECOND, MAX_TICKS_PER_SECOND + 1, LAST_SECOND, LAST_SECOND + 1,
                                       0x80000000u, 0xffffffffu};
-    switch (below(7)) {
+    switch (below(9)) {
     case 0:
         return base[word] + 1;
     case 1:
@@ -36,7 +37,11 @@ static uint32_t some_value(uint32_t word)
     case 4:
         return base[below((uint32_t)base_words)];
     case 5:
-        return one_in(2) ? base[below(HEADER_ZEROS)] + below(2) : random_word();
+        return one_in(2) ? base[below(HEADER_WORDS)] + below(2) : random_word();
+    case 6:
+        return below(KINDS + 2);
+    case 7:
+        return 0;
     default:
         return ONE_OF(limits);
     }
@@ -54,7 +59,7 @@ static void choose_stretch(size_t *from, size_t *count)
         *from = 0, *count = HEADER_WORDS;
         break;
     case 2:
-        *from = HEADER_ZEROS, *count = HEADER_WORDS - HEADER_ZEROS;
+        *from = HEADER_ZERO, *count = HEADER_WORDS - HEADER_ZERO;
         break;
     case 3:
         *from = HEADER_WORDS, *count = slice;
@@ -77,10 +82,74 @@ static void change_stretch(void)
         table[word] = filling == 0 ? random_word() : filling == 1 ? 0 : UINT32_MAX;
 }
 
+/* A slot that stands in a chain or in the queue, if a few tries find one. */
+static uint32_t linked_slot(void)
+{
+    uint32_t index = 1 + below(base[HEADER_SLOTS]);
+    for (int tries = 0; tries < 8 && !base[slot_at(index, SLOT_NEXT)] && !base[slot_at(index, SLOT_PREVIOUS)]; tries++)
+        index = 1 + below(base[HEADER_SLOTS]);
+    return index;
+}
+
+/* Two slots have the same word of the other. */
+static void exchange_words(void)
+{
+    static const enum slot_word words[] = {SLOT_KIND, SLOT_KIND, SLOT_WAIT, SLOT_NEXT, SLOT_PREVIOUS};
+    enum slot_word word = ONE_OF(words);
+    size_t here = slot_at(linked_slot(), word), there = slot_at(linked_slot(), word);
+    table[here] = base[there], table[there] = base[here];
+}
+
+/* A link leads to a slot that stands in a chain or in the queue, perhaps the same. */
+static void change_link(void)
+{
+    enum slot_word word = one_in(2) ? SLOT_NEXT : SLOT_PREVIOUS;
+    table[slot_at(linked_slot(), word)] = linked_slot();
+}
+
+/* A chain or the queue leaves its first slot out, or goes round, with links that fit. */
+static void change_chain(void)
+{
+    static const enum header_word chains[] = {HEADER_FIRST_TICKING, HEADER_FIRST_DATED, HEADER_FIRST_QUEUED,
+                                              HEADER_FIRST_QUEUED};
+    enum header_word chain = ONE_OF(chains);
+    uint32_t first = base[chain], last = first;
+    if (first == 0)
+        return;
+    if (one_in(2)) {
+        uint32_t second = table[chain] = base[slot_at(first, SLOT_NEXT)];
+        if (second != 0)
+            table[slot_at(second, SLOT_PREVIOUS)] = 0;
+        return;
+    }
+    while (base[slot_at(last, SLOT_NEXT)] != 0)
+        last = base[slot_at(last, SLOT_NEXT)];
+    table[slot_at(last, SLOT_NEXT)] = first, table[slot_at(first, SLOT_PREVIOUS)] = last;
+}
+
+/* Changes that only a check of several slots together sees. */
+static void change_links(void)
+{
+    switch (below(3)) {
+    case 0:
+        exchange_words();
+        break;
+    case 1:
+        change_link();
+        break;
+    default:
+        change_chain();
+    }
+}
+
 static void change_words(void)
 {
     if (one_in(20)) {
         change_stretch();
+        return;
+    }
+    if (one_in(10) && slice >= base_words) {
+        change_links();
         return;
     }
     if (one_in(40) && slice >= base_words) {
@@ -122,12 +191,12 @@ static void choose_call(struct call *c)
         c->words = slice;
 }
 
-static void note_alone(uint32_t broken, uint32_t kinds)
+static void note_alone(uint64_t broken, uint32_t kinds)
 {
     int part = 0;
     while (!(broken >> part & 1))
         part++;
-    if (broken != 1u << part)
+    if (broken != UINT64_C(1) << part)
         return;
     broken_alone[part] = true;
     for (uint32_t kind = 0; kind <= KINDS; kind++)
@@ -137,7 +206,8 @@ static void note_alone(uint32_t broken, uint32_t kinds)
 
 static void expect(const struct call *c)
 {
-    uint32_t kinds, broken = oracle_broken(table, slice, &kinds);
+    uint32_t kinds;
+    uint64_t broken = oracle_broken(table, slice, &kinds);
     if (broken && c->kind != LAY_OUT) {
         oracle_refuse_unsound(c, table, &expected);
         refused++;
@@ -185,7 +255,7 @@ int main(int count, char **arguments)
     begin("damage", seed);
     lend();
     while (calls < wanted) {
-        random_span();
+        random_manner();
         random_state_of(&original);
         oracle_encode(&original, base);
         base_words = table_words(original.slots);

@@ -7,10 +7,12 @@
 #include <string.h>
 
 _Static_assert(HC_SUCCESSFUL == 0 && HC_INVALID_NAME == 3 && HC_INVALID_ID == 4 && HC_TOO_MANY == 5 && HC_INVALID_SIZE == 8 &&
-               HC_INVALID_ADDRESS == 9 && HC_INVALID_NUMBER == 10 && HC_NOT_DEFINED == 11 && HC_INVALID_CLOCK == 20 &&
-               HC_NOT_SOUND == 100 && HC_LIST_TOO_SHORT == 101, "the header's statuses have the specification's numbers");
+               HC_INVALID_ADDRESS == 9 && HC_INVALID_NUMBER == 10 && HC_NOT_DEFINED == 11 && HC_UNSATISFIED == 13 &&
+               HC_INCORRECT_STATE == 14 &&
+               HC_INVALID_CLOCK == 20 && HC_NOT_SOUND == 100 && HC_LIST_TOO_SHORT == 101,
+               "the header's statuses have the specification's numbers");
 _Static_assert(sizeof(struct hc_wall_time) == 7 * sizeof(uint32_t), "a wall time is seven words");
-_Static_assert(HC_TABLE_WORDS(255) == 2050 && HC_LIST_WORDS(255) == 765, "the header's lengths");
+_Static_assert(HC_TABLE_WORDS(255) == 2050 && HC_LIST_WORDS(255) == 765 && HC_SERVED_WORDS == 3, "the header's lengths");
 
 enum { SLOTS = 3, WORDS = HC_TABLE_WORDS(SLOTS), LIST = HC_LIST_WORDS(SLOTS), ONE_SLOT_WORDS = HC_TABLE_WORDS(1) };
 static uint32_t table[WORDS], list[LIST], answer;
@@ -29,14 +31,14 @@ static struct hc_wall_time at(uint32_t year, uint32_t month, uint32_t day, uint3
     return (struct hc_wall_time){year, month, day, hour, minute, second, 0};
 }
 
-/* ---- The calls, on a slice of so many words, by their own arguments ---- */
+/* ---- The calls, on a slice of so many words and with so many of list, by their own arguments ---- */
 
-static size_t words = WORDS;
+static size_t words = WORDS, list_length = LIST;
 
 static uint32_t make(struct call c)
 {
     struct came came;
-    c.words = words, c.fired_words = LIST;
+    c.words = words, c.fired_words = list_length;
     place.call = &c;
     perform(&c, table, list, &came);
     place.call = NULL;
@@ -97,6 +99,29 @@ static uint32_t tick(void)
 static uint32_t set_clock(struct hc_wall_time time)
 {
     return make((struct call){.kind = SET_CLOCK, .time = time});
+}
+
+static uint32_t initiate_server(void)
+{
+    return make((struct call){.kind = INITIATE_SERVER});
+}
+
+static uint32_t server_fire_after(uint32_t id, uint32_t ticks, uint32_t routine, uint32_t data)
+{
+    return make((struct call){.kind = SERVER_FIRE_AFTER, .id = id, .ticks = ticks, .routine = routine, .data = data});
+}
+
+static uint32_t server_fire_when(uint32_t id, struct hc_wall_time time, uint32_t routine, uint32_t data)
+{
+    return make((struct call){.kind = SERVER_FIRE_WHEN, .id = id, .time = time, .routine = routine, .data = data});
+}
+
+static uint32_t serve(size_t length)
+{
+    list_length = length;
+    uint32_t status = make((struct call){.kind = SERVE});
+    list_length = LIST;
+    return status;
 }
 
 /* ---- The cases ---- */
@@ -269,6 +294,344 @@ static void periodic_order(void)
     fires(one, three, 0);
 }
 
+/* ---- The server ---- */
+
+static uint32_t word_of(uint32_t id, enum slot_word word)
+{
+    return table[slot_at(id - ID_BASE, word)];
+}
+
+/* The queue holds these, in this order, and no other; 0 for none. */
+static void queue_is(uint32_t first, uint32_t second, uint32_t third)
+{
+    const uint32_t ids[] = {first, second, third, 0};
+    is("word 9", first == 0 ? 0 : first - ID_BASE, table[HEADER_FIRST_QUEUED]);
+    for (int i = 0; ids[i] != 0; i++) {
+        is("next in the queue", ids[i + 1] == 0 ? 0 : ids[i + 1] - ID_BASE, word_of(ids[i], SLOT_NEXT));
+        is("previous in the queue", i == 0 ? 0 : ids[i - 1] - ID_BASE, word_of(ids[i], SLOT_PREVIOUS));
+        is("wait of a queued timer", 0, word_of(ids[i], SLOT_WAIT));
+        is("ticks left", 0, ticks_left(ids[i]));
+        is("none", 0, answer);
+    }
+}
+
+static void fill_list(void)
+{
+    for (uint32_t i = 0; i < LIST; i++)
+        list[i] = 1000 + i;
+}
+
+/* The list holds its words from this one on. */
+static void list_stays(uint32_t from)
+{
+    for (uint32_t i = from; i < LIST; i++)
+        is("list word that stays", 1000 + i, list[i]);
+}
+
+/* A serve with so many words of list hands out this timer; 0 for none. */
+static void hands_out_with(size_t length, uint32_t id, uint32_t routine, uint32_t data)
+{
+    fill_list();
+    is("serve", 0, serve(length));
+    is("answer", id != 0, answer);
+    list_stays(id == 0 ? 0 : FIRED_WORDS);
+    if (id == 0)
+        return;
+    is("its id", id, list[FIRED_ID]);
+    is("its routine", routine, list[FIRED_ROUTINE]);
+    is("its data", data, list[FIRED_DATA]);
+    is("it is off the queue: next", 0, word_of(id, SLOT_NEXT));
+    is("it is off the queue: previous", 0, word_of(id, SLOT_PREVIOUS));
+}
+
+static void hands_out(uint32_t id, uint32_t routine, uint32_t data)
+{
+    hands_out_with(HC_SERVED_WORDS, id, routine, data);
+}
+
+static const uint32_t no_such_timer = ID_BASE;
+
+static void server_not_initiated(void)
+{
+    struct hc_wall_time later = at(2000, 1, 1, 0, 0, 1), never = at(2000, 13, 1, 0, 0, 0);
+    fresh();
+    is("word 8", 0, table[HEADER_INITIATED]);
+    is("server fire after", 14, server_fire_after(one, 3, 7, 70));
+    is("server fire after, ticks 0, routine 0 and no such timer", 14, server_fire_after(no_such_timer, 0, 0, 70));
+    is("server fire when, clock not set", 14, server_fire_when(one, later, 7, 70));
+    is("set clock", 0, set_clock(at(2000, 1, 1, 0, 0, 0)));
+    is("server fire when", 14, server_fire_when(one, later, 7, 70));
+    is("server fire when, routine 0, no such date or timer", 14, server_fire_when(no_such_timer, never, 0, 70));
+    fill_list();
+    is("serve", 14, serve(HC_SERVED_WORDS));
+    is("answer", 0, answer);
+    is("serve with two words of list", 101, serve(HC_SERVED_WORDS - 1));
+    is("serve with no list", 101, serve(0));
+    list_stays(0);
+    is("it is not started", KIND_NEVER_STARTED, kind(1));
+    is("word 8", 0, table[HEADER_INITIATED]);
+    is("fire after 5", 0, fire_after(two, 5, 8, 80));
+    is("initiate", 0, initiate_server());
+    is("word 8", 1, table[HEADER_INITIATED]);
+    is("ticks left", 0, ticks_left(two));
+    is("the other waits on", 5, answer);
+    is("cancel", 0, cancel(two));
+    is("initiate again", 14, initiate_server());
+    is("word 8", 1, table[HEADER_INITIATED]);
+    is("server fire after", 0, server_fire_after(one, 1, 7, 70));
+    nothing_fires(1);
+    is("word 9", 1, table[HEADER_FIRST_QUEUED]);
+    fresh();
+    is("lay out: word 8", 0, table[HEADER_INITIATED]);
+    is("lay out: word 9", 0, table[HEADER_FIRST_QUEUED]);
+    is("serve", 14, serve(HC_SERVED_WORDS));
+    is("initiate after lay out", 0, initiate_server());
+}
+
+static void server_refusals(void)
+{
+    struct hc_wall_time now = at(2000, 1, 1, 0, 0, 0), later = at(2000, 1, 1, 0, 0, 1), never = at(2000, 13, 1, 0, 0, 0);
+    fresh();
+    is("initiate", 0, initiate_server());
+    is("server fire after, ticks 0 and routine 0", 10, server_fire_after(one, 0, 0, 70));
+    is("server fire after, routine 0 and no such timer", 9, server_fire_after(no_such_timer, 3, 0, 70));
+    is("server fire after, a free slot", 4, server_fire_after(three, 3, 7, 70));
+    is("server fire when, clock not set and routine 0", 11, server_fire_when(one, later, 0, 70));
+    is("set clock", 0, set_clock(now));
+    is("server fire when, routine 0 and the present second", 9, server_fire_when(one, now, 0, 70));
+    is("server fire when at the present second", 20, server_fire_when(one, now, 7, 70));
+    is("server fire when, no such date or timer", 20, server_fire_when(no_such_timer, never, 7, 70));
+    is("server fire when, a free slot", 4, server_fire_when(three, later, 7, 70));
+    is("it is not started", KIND_NEVER_STARTED, kind(1));
+    is("server fire when one second later", 0, server_fire_when(one, later, 7, 70));
+    is("it waits for a date", KIND_SERVER_DATED, kind(1));
+    later.ticks = 4294967295u;
+    is("server fire when ignores the ticks field", 0, server_fire_when(one, later, 7, 70));
+    is("ticks left", 0, ticks_left(one));
+    is("it does not wait for ticks", 0, answer);
+    is("ticks 4294967295", 0, server_fire_after(one, 4294967295u, 7, 70));
+    is("it waits for ticks", KIND_SERVER_TICKING, kind(1));
+    is("ticks left", 0, ticks_left(one));
+    is("all of them", 4294967295u, answer);
+    fill_list();
+    is("serve with two words of list", 101, serve(HC_SERVED_WORDS - 1));
+    list_stays(0);
+    hands_out(0, 0, 0);
+}
+
+/* Of three that are due together the second is listed, the others are queued. */
+static void queued_in_a_tick(void)
+{
+    fresh();
+    is("create", 0, create(3));
+    is("initiate", 0, initiate_server());
+    is("server fire after 5", 0, server_fire_after(one, 5, 7, 70));
+    is("fire after 5", 0, fire_after(two, 5, 8, 80));
+    is("server fire after 5", 0, server_fire_after(three, 5, 9, 90));
+    nothing_fires(4);
+    is("ticks left", 0, ticks_left(three));
+    is("one", 1, answer);
+    hands_out(0, 0, 0);
+    fill_list();
+    fires(two, 0, 0);
+    list_stays(FIRED_WORDS);
+    is("the first is queued", KIND_QUEUED_TICKING, kind(1));
+    is("the second fired", KIND_IDLE_TICKING, kind(2));
+    is("the third is queued", KIND_QUEUED_TICKING, kind(3));
+    is("word 5", 0, table[HEADER_FIRST_TICKING]);
+    queue_is(one, three, 0);
+    fill_list();
+    is("serve with two words of list", 101, serve(HC_SERVED_WORDS - 1));
+    list_stays(0);
+    queue_is(one, three, 0);
+    hands_out(one, 7, 70);
+    is("it is idle", KIND_IDLE_SERVER_TICKING, kind(1));
+    queue_is(three, 0, 0);
+    nothing_fires(1);
+    is("server fire after 1", 0, server_fire_after(one, 1, 7, 71));
+    nothing_fires(1);
+    queue_is(three, one, 0);
+    hands_out_with(HC_SERVED_WORDS + 1, three, 9, 90);
+    hands_out_with(LIST, one, 7, 71);
+    hands_out_with(LIST, 0, 0, 0);
+    is("reset", 0, reset(three));
+    is("it waits as a server timer", KIND_SERVER_TICKING, kind(3));
+    nothing_fires(5);
+    queue_is(three, 0, 0);
+}
+
+/* Dated timers after interval ones, though they were started before; a tick is a second here. */
+static void queued_by_date(void)
+{
+    struct hc_wall_time later = at(2000, 1, 1, 0, 0, 1);
+    is("lay out", 0, lay_out(SLOTS, 1));
+    for (uint32_t name = 1; name <= SLOTS; name++)
+        is("create", 0, create(name));
+    is("initiate", 0, initiate_server());
+    is("set clock", 0, set_clock(at(2000, 1, 1, 0, 0, 0)));
+    is("server fire when", 0, server_fire_when(one, later, 7, 70));
+    is("fire when", 0, fire_when(two, later));
+    is("server fire after 1", 0, server_fire_after(three, 1, 9, 90));
+    fires(two, 0, 0);
+    queue_is(three, one, 0);
+    is("the dated one is queued", KIND_QUEUED_DATED, kind(1));
+    is("the interval one is queued", KIND_QUEUED_TICKING, kind(3));
+    is("reset of one queued by date", 11, reset(one));
+    queue_is(three, one, 0);
+    hands_out(three, 9, 90);
+    hands_out(one, 7, 70);
+    is("it is idle", KIND_IDLE_SERVER_DATED, kind(1));
+    is("reset of one idle by date", 11, reset(one));
+    is("server fire when", 0, server_fire_when(one, at(2000, 1, 1, 0, 0, 2), 7, 70));
+    is("reset of one that waits for a date", 11, reset(one));
+    is("it waits still", KIND_SERVER_DATED, kind(1));
+}
+
+static void queued_by_set_clock(void)
+{
+    fresh();
+    is("create", 0, create(3));
+    is("initiate", 0, initiate_server());
+    is("set clock", 0, set_clock(at(2000, 1, 1, 0, 0, 0)));
+    is("server fire when", 0, server_fire_when(three, at(2000, 1, 1, 0, 0, 30), 9, 90));
+    is("fire when", 0, fire_when(two, at(2000, 1, 1, 0, 0, 20)));
+    is("server fire when", 0, server_fire_when(one, at(2000, 1, 1, 0, 0, 10), 7, 71));
+    fill_list();
+    is("set clock", 0, set_clock(at(2000, 1, 1, 0, 0, 29)));
+    is("one is listed", 1, answer);
+    is("its id", two, list[FIRED_ID]);
+    list_stays(FIRED_WORDS);
+    queue_is(one, 0, 0);
+    is("the last waits still", KIND_SERVER_DATED, kind(3));
+    fill_list();
+    is("set clock", 0, set_clock(at(2000, 1, 1, 0, 0, 30)));
+    is("none is listed", 0, answer);
+    list_stays(0);
+    queue_is(one, three, 0);
+    hands_out(one, 7, 71);
+    hands_out(three, 9, 90);
+    hands_out(0, 0, 0);
+}
+
+/* All three are queued, the second by date. */
+static void queue_three(void)
+{
+    is("lay out", 0, lay_out(SLOTS, 1));
+    for (uint32_t name = 1; name <= SLOTS; name++)
+        is("create", 0, create(name));
+    is("initiate", 0, initiate_server());
+    is("set clock", 0, set_clock(at(2000, 1, 1, 0, 0, 0)));
+    is("server fire after 1", 0, server_fire_after(one, 1, 7, 70));
+    is("server fire when", 0, server_fire_when(two, at(2000, 1, 1, 0, 0, 2), 8, 80));
+    is("server fire after 3", 0, server_fire_after(three, 3, 9, 90));
+    nothing_fires(3);
+    queue_is(one, two, three);
+}
+
+/* Makes the call on a queued timer; gives its status and the kind that it should leave. */
+static uint32_t take_off(enum call_kind call, uint32_t id, uint32_t *left)
+{
+    struct hc_wall_time later = at(2000, 1, 1, 0, 1, 0);
+    *left = KIND_FREE;
+    switch (call) {
+    case CANCEL:
+        *left = id == two ? KIND_IDLE_SERVER_DATED : KIND_IDLE_SERVER_TICKING;
+        return cancel(id);
+    case DELETE:
+        return delete(id);
+    case FIRE_AFTER:
+        *left = KIND_TICKING;
+        return fire_after(id, 9, 7, 70);
+    case FIRE_WHEN:
+        *left = KIND_DATED;
+        return fire_when(id, later);
+    case FIRE_EVERY:
+        *left = KIND_PERIODIC;
+        return fire_every(id, 9, 7, 70);
+    case RESET:
+        *left = KIND_SERVER_TICKING;
+        return reset(id);
+    case SERVER_FIRE_AFTER:
+        *left = KIND_SERVER_TICKING;
+        return server_fire_after(id, 9, 7, 70);
+    default:
+        *left = KIND_SERVER_DATED;
+        return server_fire_when(id, later, 7, 70);
+    }
+}
+
+/* Each call that takes a queued timer off, at the front, between the others and at the end. */
+static void taken_off(void)
+{
+    static const enum call_kind calls[] = {CANCEL, DELETE, FIRE_AFTER, FIRE_WHEN, FIRE_EVERY, RESET, SERVER_FIRE_AFTER,
+                                           SERVER_FIRE_WHEN};
+    for (size_t i = 0; i < sizeof calls / sizeof *calls; i++)
+        for (uint32_t id = one; id <= three; id++) {
+            uint32_t left, first = id == one ? two : one, second = id == three ? two : three;
+            if (calls[i] == RESET && id == two)
+                continue;
+            queue_three();
+            is(call_names[calls[i]], 0, take_off(calls[i], id, &left));
+            is("kind of the timer taken off", left, kind(id - ID_BASE));
+            queue_is(first, second, 0);
+            hands_out(first, first == one ? 7 : 8, first == one ? 70 : 80);
+            hands_out(second, second == three ? 9 : 8, second == three ? 90 : 80);
+            hands_out(0, 0, 0);
+        }
+}
+
+/* A refused call leaves a queued timer where it is. */
+static void stays_queued(void)
+{
+    struct hc_wall_time passed = at(2000, 1, 1, 0, 0, 3);
+    queue_three();
+    is("fire after, ticks 0", 10, fire_after(one, 0, 7, 70));
+    is("fire every, routine 0", 9, fire_every(two, 3, 0, 70));
+    is("fire when, the present second", 20, fire_when(three, passed));
+    is("server fire after, ticks 0", 10, server_fire_after(two, 0, 7, 70));
+    is("server fire when, the present second", 20, server_fire_when(one, passed, 7, 70));
+    is("reset of one queued by date", 11, reset(two));
+    is("initiate again", 14, initiate_server());
+    queue_is(one, two, three);
+    hands_out(one, 7, 70);
+    is("cancel", 0, cancel(one));
+    is("it is idle still", KIND_IDLE_SERVER_TICKING, kind(1));
+    hands_out(two, 8, 80);
+    is("cancel", 0, cancel(two));
+    is("it is idle still", KIND_IDLE_SERVER_DATED, kind(2));
+    is("cancel of one that is queued", 0, cancel(three));
+    hands_out(0, 0, 0);
+}
+
+/* Waiting timers of the server stop, and start again as what the call says. */
+static void server_stops(void)
+{
+    fresh();
+    is("initiate", 0, initiate_server());
+    is("set clock", 0, set_clock(at(2000, 1, 1, 0, 0, 0)));
+    is("server fire after 3", 0, server_fire_after(one, 3, 7, 70));
+    is("cancel", 0, cancel(one));
+    is("it is idle", KIND_IDLE_SERVER_TICKING, kind(1));
+    is("server fire when", 0, server_fire_when(two, at(2000, 1, 1, 0, 0, 1), 8, 80));
+    is("cancel", 0, cancel(two));
+    is("it is idle", KIND_IDLE_SERVER_DATED, kind(2));
+    nothing_fires(20);
+    hands_out(0, 0, 0);
+    is("reset", 0, reset(one));
+    nothing_fires(2);
+    is("reset of one that waits", 0, reset(one));
+    nothing_fires(2);
+    is("it waits still", KIND_SERVER_TICKING, kind(1));
+    nothing_fires(1);
+    queue_is(one, 0, 0);
+    is("fire after 1", 0, fire_after(one, 1, 7, 71));
+    fires(one, 0, 0);
+    is("it is a server timer no longer", KIND_IDLE_TICKING, kind(1));
+    is("reset", 0, reset(one));
+    fires(one, 0, 0);
+    hands_out(0, 0, 0);
+}
+
 static void single_slot(void)
 {
     words = ONE_SLOT_WORDS;
@@ -297,8 +660,7 @@ static void session(void)
 {
     static const char lines[] = "0 0\n0 302055425\n0 302055426\n0 0\n0 0\n0 0\n0 0\n0 0\n0 0\n0 2\n";
     static const uint32_t fired[LIST] = {0x12010001, 7, 70, 0x12010002, 8, 80, 1006, 1007, 1008};
-    for (uint32_t i = 0; i < LIST; i++)
-        list[i] = 1000 + i;
+    fill_list();
     line(lay_out(SLOTS, 10));
     line(create(1));
     line(create(2));
@@ -327,6 +689,14 @@ int main(void)
     every_multiple();
     periodic_stops();
     periodic_order();
+    server_not_initiated();
+    server_refusals();
+    queued_in_a_tick();
+    queued_by_date();
+    queued_by_set_clock();
+    taken_off();
+    stays_queued();
+    server_stops();
     printf("edges: %u checks\n", checks);
     return 0;
 }

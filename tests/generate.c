@@ -25,17 +25,25 @@ uint32_t random_slots(void)
 
 uint32_t random_ticks_per_second(void)
 {
-    static const uint32_t usual[] = {1, 1, 2, 3, 10, 60, 100, 999, 1000};
+    static const uint32_t usual[] = {1, 1, 1, 2, 2, 3, 10, 60, 100, 999, 1000};
     return one_in(4) ? 1 + below(MAX_TICKS_PER_SECOND) : ONE_OF(usual);
 }
 
 /* How far ahead most starts are due, in ticks or seconds: short spans give many equals, long ones many waiting. */
 static uint32_t span = 5;
 
-void random_span(void)
+/* Whether the server is to be initiated where it is not yet, whether it is to serve often, and from how many queued timers on
+ * the calls are mostly for one of them. */
+static bool with_server = true, serving = true;
+static uint32_t queue_wanted = 3;
+
+void random_manner(void)
 {
     static const uint32_t spans[] = {3, 5, 5, 40, 1000};
     span = ONE_OF(spans);
+    with_server = !one_in(6);
+    serving = one_in(3);
+    queue_wanted = one_in(4) ? 1 : 3 + below(one_in(3) ? 60 : 2);
 }
 
 /* A number near another: the same, one more or less, or a few more. */
@@ -50,12 +58,22 @@ static uint32_t random_number(void)
     return one_in(3) ? random_word() : ONE_OF(ends);
 }
 
+/* A queued timer, at one of the ends or, as often, between them. */
+static uint32_t queued_index(const struct oracle *o)
+{
+    if (o->queued > 2 && one_in(2))
+        return o->queue[1 + below(o->queued - 2)];
+    return o->queue[one_in(2) ? 0 : o->queued - 1];
+}
+
 static uint32_t random_id(const struct oracle *o)
 {
     uint32_t index = 1 + below(o->slots);
-    for (int tries = 0; tries < 3 && !o->timer[index].exists; tries++)
+    if (o->queued > 0 && one_in(o->queued < queue_wanted ? 16 : 2))
+        return ID_BASE + queued_index(o);
+    for (int tries = 0; tries < 8 && !o->timer[index].exists; tries++)
         index = 1 + below(o->slots);
-    if (!one_in(6))
+    if (!one_in(9))
         return ID_BASE + index;
     switch (below(7)) {
     case 0:
@@ -115,7 +133,7 @@ static uint32_t random_second(const struct oracle *o)
 {
     uint64_t due = some_due(o, BY_DATE);
     uint32_t second = 0;
-    switch (below(12)) {
+    switch (below(14)) {
     case 0:
         second = LAST_SECOND - below(4);
         break;
@@ -127,12 +145,15 @@ static uint32_t random_second(const struct oracle *o)
         break;
     case 3:
     case 4:
-    case 5:
         second = near(due ? (uint32_t)due : o->seconds);
         break;
+    case 5:
     case 6:
     case 7:
     case 8:
+    case 9:
+    case 10:
+    case 11:
         second = o->seconds + 1 + below(span);
         break;
     default:
@@ -183,7 +204,7 @@ static void random_date(const struct oracle *o, struct hc_wall_time *t)
 {
     oracle_date_of(random_second(o), t);
     t->ticks = one_in(2) ? random_number() : 0;
-    if (one_in(4))
+    if (one_in(8))
         spoil_date(t);
     if (one_in(40))
         spoil_date(t);
@@ -198,28 +219,38 @@ static size_t random_list_length(uint32_t slots)
     return one_in(2) ? needed - 1 - below(FIRED_WORDS) : below(needed + MOST_PAST_LIST);
 }
 
-static enum call_kind random_kind(void)
+static size_t random_serve_list_length(void)
 {
-    static const enum call_kind weights[] = {
-        CREATE, CREATE, CREATE, CREATE, CREATE, IDENT, IDENT, CANCEL, CANCEL, DELETE, DELETE,
-        FIRE_AFTER, FIRE_AFTER, FIRE_AFTER, FIRE_AFTER, FIRE_AFTER, FIRE_AFTER, FIRE_WHEN, FIRE_WHEN, FIRE_WHEN, FIRE_WHEN,
-        FIRE_WHEN, FIRE_WHEN, FIRE_EVERY, FIRE_EVERY, FIRE_EVERY, FIRE_EVERY, RESET, RESET, RESET, TICKS_LEFT, TICKS_LEFT,
-        TICKS_LEFT, TICK, TICK, TICK, TICK, TICK, TICK, TICK, TICK, TICK, TICK, SET_CLOCK, SET_CLOCK, SET_CLOCK, GET_CLOCK,
-        GET_CLOCK};
-    return ONE_OF(weights);
+    return one_in(4) ? FIRED_WORDS + below(20) : below(FIRED_WORDS + 3);
+}
+
+static enum call_kind random_kind(const struct oracle *o)
+{
+    static const uint32_t weights[CALLS] = {
+        [CREATE] = 7, [IDENT] = 3, [CANCEL] = 4, [DELETE] = 4, [FIRE_AFTER] = 5, [FIRE_WHEN] = 6, [FIRE_EVERY] = 5,
+        [RESET] = 4, [TICKS_LEFT] = 3, [TICK] = 10, [SET_CLOCK] = 3, [GET_CLOCK] = 3, [INITIATE_SERVER] = 1,
+        [SERVER_FIRE_AFTER] = 7, [SERVER_FIRE_WHEN] = 9, [SERVE] = 8};
+    enum call_kind kind = weighted_call(weights);
+    if (!o->initiated && with_server && one_in(4))
+        return INITIATE_SERVER;
+    if (!o->initiated && !with_server && kind == INITIATE_SERVER)
+        return SERVE;
+    if (!o->clock_set && one_in(15))
+        return SET_CLOCK;
+    return kind == SERVE && !serving && !one_in(4) ? TICK : kind;
 }
 
 void random_call(const struct oracle *o, struct call *c)
 {
     memset(c, 0, sizeof *c);
-    c->kind = random_kind();
-    c->fired_words = random_list_length(o->slots);
+    c->kind = random_kind(o);
+    c->fired_words = c->kind == SERVE ? random_serve_list_length() : random_list_length(o->slots);
     c->name = random_name();
     c->id = random_id(o);
     c->ticks = random_ticks(o);
     c->routine = one_in(8) ? random_number() : 1 + below(9);
     c->data = one_in(3) ? random_number() : below(100);
-    if (one_in(20))
+    if (one_in(12))
         c->routine = 0;
     random_date(o, &c->time);
 }
@@ -252,10 +283,11 @@ static void random_timer(struct oracle *o, struct oracle_timer *t)
     if (!t->exists || one_in(6))
         return;
     t->routine = 1 + below(9), t->data = random_number(), t->start = ++o->starts;
-    t->waiting = !one_in(4);
+    t->waiting = !one_in(3);
     t->started = one_in(2) ? BY_DATE : BY_INTERVAL;
+    t->server = o->initiated && one_in(2);
     if (t->started == BY_INTERVAL) {
-        t->periodic = one_in(3);
+        t->periodic = !t->server && one_in(3);
         t->interval = left == 0 ? 1 : left;
         t->due = o->ticks + (one_in(2) ? t->interval : 1 + below(t->interval));
     } else {
@@ -264,11 +296,24 @@ static void random_timer(struct oracle *o, struct oracle_timer *t)
     }
 }
 
+/* Queues some timers of the server, in any order. */
+static void random_queue(struct oracle *o)
+{
+    for (uint32_t i = 1; i <= o->slots; i++)
+        if (o->timer[i].server && one_in(3)) {
+            uint32_t place = below(o->queued + 1);
+            o->timer[i].waiting = false;
+            o->queue[o->queued++] = o->queue[place];
+            o->queue[place] = i;
+        }
+}
+
 void random_state_of(struct oracle *o)
 {
     memset(o, 0, sizeof *o);
     o->slots = random_slots();
     o->ticks_per_second = random_ticks_per_second();
+    o->initiated = !one_in(4);
     o->clock_set = !one_in(4);
     if (o->clock_set) {
         o->seconds = one_in(4) ? LAST_SECOND - below(3) : one_in(3) ? below(2) : below(LAST_SECOND);
@@ -276,6 +321,7 @@ void random_state_of(struct oracle *o)
     }
     for (uint32_t i = 1; i <= o->slots; i++)
         random_timer(o, &o->timer[i]);
+    random_queue(o);
     if (one_in(4))
         for (uint32_t i = 1; i <= o->slots; i++)
             if (!o->timer[i].exists)

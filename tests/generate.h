@@ -9,8 +9,9 @@ enum { MOST_PAST_TABLE = 20 };      /* words of a slice after its table stay bel
 uint32_t random_slots(void);
 uint32_t random_ticks_per_second(void);
 
-/* Chooses how far ahead the starts of the calls that follow are due. */
-void random_span(void);
+/* Chooses the manner of the calls that follow: how far ahead starts are due, whether the server is initiated, and how often
+ * it serves. */
+void random_manner(void);
 
 /* A call other than lay out that suits the state, or just misses it. */
 void random_call(const struct oracle *state, struct call *call);
@@ -18,7 +19,7 @@ void random_call(const struct oracle *state, struct call *call);
 /* A lay out of a table of at most so many slots, or one that is to be refused. */
 void random_lay_out(uint32_t most, size_t capacity, struct call *call);
 
-/* A state as some history could leave it: free, idle and waiting timers of all kinds. */
+/* A state as some history could leave it, or nearly: free, idle, waiting and queued timers of all kinds. */
 void random_state_of(struct oracle *state);
 
 #endif

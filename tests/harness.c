@@ -59,6 +59,17 @@ bool one_in(uint32_t n)
     return below(n) == 0;
 }
 
+enum call_kind weighted_call(const uint32_t weights[CALLS])
+{
+    uint32_t sum = 0;
+    for (int kind = 0; kind < CALLS; kind++)
+        sum += weights[kind];
+    uint32_t chosen = below(sum), kind = 0;
+    while (chosen >= weights[kind])
+        chosen -= weights[kind++];
+    return (enum call_kind)kind;
+}
+
 /* ---- Memory ---- */
 
 struct lent table_memory, other_table_memory, list_memory;
@@ -135,19 +146,23 @@ static void describe_arguments(const struct call *c, char *text, size_t size)
         break;
     case FIRE_AFTER:
     case FIRE_EVERY:
+    case SERVER_FIRE_AFTER:
         snprintf(text, size, ", id 0x%" PRIx32 ", ticks %" PRIu32 ", routine %" PRIu32 ", data %" PRIu32, c->id, c->ticks,
                  c->routine, c->data);
         break;
     case FIRE_WHEN:
+    case SERVER_FIRE_WHEN:
         snprintf(text, size, ", id 0x%" PRIx32 ", %s, routine %" PRIu32 ", data %" PRIu32, c->id, time, c->routine, c->data);
         break;
     case TICK:
+    case SERVE:
         snprintf(text, size, ", list %zu words", c->fired_words);
         break;
     case SET_CLOCK:
         snprintf(text, size, ", %s, list %zu words", time, c->fired_words);
         break;
     case GET_CLOCK:
+    case INITIATE_SERVER:
         *text = '\0';
         break;
     }
@@ -300,6 +315,14 @@ static uint32_t call_library(const void *arguments)
         return hc_set_clock(table, c->words, time, list, c->fired_words, answer);
     case GET_CLOCK:
         return hc_get_clock(table, c->words, time);
+    case INITIATE_SERVER:
+        return hc_initiate_server(table, c->words);
+    case SERVER_FIRE_AFTER:
+        return hc_server_fire_after(table, c->words, c->id, c->ticks, c->routine, c->data);
+    case SERVER_FIRE_WHEN:
+        return hc_server_fire_when(table, c->words, c->id, time, c->routine, c->data);
+    case SERVE:
+        return hc_serve(table, c->words, list, c->fired_words, answer);
     }
     abort();    /* there is no such call */
 }
@@ -319,7 +342,7 @@ uint32_t watched(uint32_t (*call)(const void *), const void *arguments)
 
 static bool has_answer(enum call_kind kind)
 {
-    return kind == CREATE || kind == IDENT || kind == TICKS_LEFT || kind == TICK || kind == SET_CLOCK;
+    return kind == CREATE || kind == IDENT || kind == TICKS_LEFT || kind == TICK || kind == SET_CLOCK || kind == SERVE;
 }
 
 void perform(const struct call *c, uint32_t *table, uint32_t *list, struct came *came)
@@ -349,7 +372,7 @@ static void name_word(ptrdiff_t word, char *text, size_t size)
 {
     static const char *const header[HEADER_WORDS] = {
         "slot count", "ticks in a second", "clock set", "seconds", "ticks into the second", "first of the interval chain",
-        "first of the dated chain", "zero", "zero", "zero"};
+        "first of the dated chain", "zero", "server initiated", "first of the queue"};
     static const char *const fields[SLOT_WORDS] = {"kind",    "name",      "interval", "wait",
                                                    "routine", "user data", "next",     "previous"};
     if (word < 0)
@@ -423,16 +446,34 @@ enum { STATUSES = 102 };
 static uint64_t by_status[CALLS][STATUSES], by_reason[CALLS][REASONS];
 static bool by_pair[CALLS][STATUSES][STATUSES];
 static bool taken_by_kind[CALLS][KINDS], refused_by_kind[CALLS][KINDS];    /* with the id of a timer of the kind */
-static uint32_t turns_met;
+static uint32_t turns_met[CALLS];
+static bool taken_off[CALLS][KINDS][QUEUE_PLACES];
 
-static void note(enum call_kind kind, const struct outcome *outcome, const struct oracle *after)
+/* Serves by the timers queued before and the words of list, where all above the last are the same. */
+enum { QUEUE_LENGTHS = 4, SERVE_LISTS = FIRED_WORDS + 3 };
+static bool serves_met[QUEUE_LENGTHS][SERVE_LISTS];
+
+static void note_serve(const struct call *c, const struct outcome *outcome)
 {
+    uint32_t queued = outcome->queued_before < QUEUE_LENGTHS ? outcome->queued_before : QUEUE_LENGTHS - 1;
+    size_t words = c->fired_words < SERVE_LISTS ? c->fired_words : SERVE_LISTS - 1;
+    if (outcome->status == HC_SUCCESSFUL || outcome->reason == SERVED_SHORT)
+        serves_met[queued][words] = true;
+}
+
+static void note(const struct call *c, const struct outcome *outcome, const struct oracle *after)
+{
+    enum call_kind kind = c->kind;
     bool accepted = outcome->status == HC_SUCCESSFUL;
     by_status[kind][outcome->status]++;
     by_reason[kind][outcome->reason]++;
     (accepted ? taken_by_kind : refused_by_kind)[kind][outcome->timer_kind] = true;
-    if (kind == TICK && accepted)
-        turns_met |= oracle_turns(after, outcome);
+    if ((kind == TICK || kind == SET_CLOCK) && accepted)
+        turns_met[kind] |= oracle_turns(after, outcome);
+    if (kind == SERVE)
+        note_serve(c, outcome);
+    else if (accepted)
+        taken_off[kind][outcome->timer_kind][outcome->queue_place] = true;
     for (int reason = 1; reason < REASONS; reason++)
         if (outcome->applying >> reason & 1)
             by_pair[kind][outcome->status][reason_statuses[reason]] = true;
@@ -442,7 +483,8 @@ static void note(enum call_kind kind, const struct outcome *outcome, const struc
 static void expect_words(const struct outcome *expected, const struct oracle *after)
 {
     oracle_encode(after, expected_of(place.memory, place.words));
-    if (place.call->kind == TICK || place.call->kind == SET_CLOCK)
+    enum call_kind kind = place.call->kind;
+    if (kind == TICK || kind == SET_CLOCK || kind == SERVE)
         memcpy(expected_of(&list_memory, place.list), expected->fired, list_words(expected->answer) * sizeof(uint32_t));
 }
 
@@ -453,13 +495,13 @@ void try_call(const struct outcome *expected, const struct oracle *after)
         expect_words(expected, after);
     perform(place.call, place.words, place.list, &came);
     compare(&came, expected);
-    note(place.call->kind, expected, after);
+    note(place.call, expected, after);
 }
 
 void report_met(void)
 {
     for (int kind = 0; kind < CALLS; kind++) {
-        printf("  %-11s accepted %9" PRIu64, call_names[kind], by_status[kind][0]);
+        printf("  %-17s accepted %9" PRIu64, call_names[kind], by_status[kind][0]);
         for (int status = 1; status < STATUSES; status++)
             if (by_status[kind][status])
                 printf("   %d: %" PRIu64, status, by_status[kind][status]);
@@ -503,11 +545,45 @@ unsigned kinds_not_met(void)
 unsigned turns_not_met(int turns)
 {
     unsigned missing = 0;
-    for (int turn = 0; turn < turns; turn++)
-        if (!(turns_met >> turn & 1)) {
-            printf("  not met: a tick in which %s\n", turn_texts[turn]);
+    for (int kind = 0; kind < CALLS; kind++)
+        for (int turn = 0; turn < turns; turn++)
+            if (oracle_turn_possible((enum call_kind)kind, (enum turn)turn) && !(turns_met[kind] >> turn & 1)) {
+                printf("  not met: %s in which %s\n", call_names[kind], turn_texts[turn]);
+                missing++;
+            }
+    return missing;
+}
+
+static unsigned places_not_met(enum call_kind kind, uint32_t timer)
+{
+    unsigned missing = 0;
+    for (int queued = QUEUED_ALONE; queued < QUEUE_PLACES; queued++)
+        if (oracle_takes_off(kind, timer) && !taken_off[kind][timer][queued]) {
+            printf("  not met: %s of a timer of kind %" PRIu32 " %s\n", call_names[kind], timer, queue_place_texts[queued]);
             missing++;
         }
+    return missing;
+}
+
+static unsigned serves_not_met(void)
+{
+    unsigned missing = 0;
+    for (int queued = 0; queued < QUEUE_LENGTHS; queued++)
+        for (int words = 0; words < SERVE_LISTS; words++)
+            if (!serves_met[queued][words]) {
+                printf("  not met: serve of %d queued timers%s with %d words of list%s\n", queued,
+                       queued == QUEUE_LENGTHS - 1 ? " or more" : "", words, words == SERVE_LISTS - 1 ? " or more" : "");
+                missing++;
+            }
+    return missing;
+}
+
+unsigned queue_not_met(void)
+{
+    unsigned missing = serves_not_met();
+    for (int kind = 0; kind < CALLS; kind++)
+        for (uint32_t timer = 0; timer < KINDS; timer++)
+            missing += places_not_met((enum call_kind)kind, timer);
     return missing;
 }
 

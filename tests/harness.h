@@ -14,6 +14,9 @@ uint32_t below(uint32_t limit);
 bool one_in(uint32_t n);
 #define ONE_OF(array) ((array)[below(sizeof (array) / sizeof *(array))])
 
+/* A call, each as often as its weight says. */
+enum call_kind weighted_call(const uint32_t weights[CALLS]);
+
 /* ---- Memory between pages that stop the program when they are read or written ---- */
 struct lent {
     uint32_t *base;         /* the words that exist */
@@ -56,7 +59,7 @@ struct place {
     uint64_t seed;
     uint64_t table, number;         /* the table's number, and the call's on it, both from 1 */
     const struct call *call;
-    const struct lent *memory;      /* of the table; its slice begins at words, and the fired list at list */
+    const struct lent *memory;      /* of the table; its slice begins at words, and the list at list */
     uint32_t *words, *list;
 };
 extern struct place place;
@@ -69,9 +72,11 @@ void describe_time(const struct hc_wall_time *time, char text[TIME_TEXT]);
 void report_met(void);
 
 /* Each prints the cases that were not met and gives their number: statuses of each call, and where two apply; calls with the
- * id of a timer of each kind; so many of the turns that a tick may take. */
+ * id of a timer of each kind; so many of the turns that a tick or set clock may take; timers taken off the queue by each call
+ * at each place, and serves of each queue with each list. */
 unsigned statuses_not_met(void);
 unsigned kinds_not_met(void);
 unsigned turns_not_met(int turns);
+unsigned queue_not_met(void);
 
 #endif

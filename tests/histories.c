@@ -1,6 +1,7 @@
-/* Histories: what must fire is kept from the calls and their statuses alone, as absolute ticks and dates, in the words of
- * the specification's claim about whole lists of calls; the calendar is the C library's. No table is looked at, but for that
- * claim's last sentence: the chains give the waiting timers in firing order by next, and in reverse by previous.
+/* Histories: what must fire, be queued and be handed out is kept from the calls and their statuses alone, as absolute ticks
+ * and dates and numbers of serves, in the words of the specification's claim about whole lists of calls; the calendar is the
+ * C library's. No table is looked at, but for that claim's last sentence: the chains give the waiting timers in firing order
+ * by next, and in reverse by previous; and so does the queue those that are queued.
  * Arguments: seed, number of calls. */
 #include "harness.h"
 #include "libc_calendar.h"
@@ -14,7 +15,7 @@
  * the end, since its going back counts as a start for the order among equals. */
 struct start {
     uint32_t id, ticks, routine, data;
-    bool by_date, periodic;
+    bool by_date, periodic, server;
     uint64_t begun;     /* after so many accepted ticks */
     uint64_t date;      /* in seconds */
 };
@@ -28,8 +29,41 @@ static bool exists[MAX_SLOTS + 1];      /* from its create to its delete or a la
 static uint64_t ticks, clock_ticks;     /* accepted ticks since lay out; the clock, counted in ticks */
 static bool clock_set;
 static uint32_t slots, ticks_per_second;
-static uint64_t calls, fired_in_all, fired_again, accepted[CALLS];
+
+/* Accepted serves since lay out, and by slot the number of the one that hands the queued timer out: its place in the queue
+ * after those made when it was queued, one sooner for each taken off ahead of it; 0 where it is not queued. */
+static uint64_t serves, handed_by[MAX_SLOTS + 1];
+static bool initiated, sooner[MAX_SLOTS + 1];
+
+static uint64_t calls, fired_in_all, fired_again, served_in_all, served_sooner, accepted[CALLS];
 static uint32_t span;
+static bool with_server;                /* whether it is to be initiated */
+
+/* ---- The queue ---- */
+
+static uint32_t queue_length(void)
+{
+    uint32_t count = 0;
+    for (uint32_t i = 1; i <= slots; i++)
+        count += handed_by[i] != 0;
+    return count;
+}
+
+static void enqueue(uint32_t id)
+{
+    uint32_t place_in_queue = queue_length() + 1;
+    handed_by[id - ID_BASE] = serves + place_in_queue;
+    sooner[id - ID_BASE] = false;
+}
+
+static void take_off(uint32_t id)
+{
+    uint64_t taken = handed_by[id - ID_BASE];
+    handed_by[id - ID_BASE] = 0;
+    for (uint32_t i = 1; taken != 0 && i <= slots; i++)
+        if (handed_by[i] > taken)
+            handed_by[i]--, sooner[i] = true;
+}
 
 /* ---- Starts ---- */
 
@@ -46,9 +80,16 @@ static void end_starts_of(uint32_t id)
             end_start(i--);
 }
 
+/* By an accepted cancel, reset, new start or delete. */
+static void stop(uint32_t id)
+{
+    end_starts_of(id);
+    take_off(id);
+}
+
 static void begin_start(struct start start)
 {
-    end_starts_of(start.id);
+    stop(start.id);
     waiting[waiting_count++] = start;
     last[start.id - ID_BASE] = start;
 }
@@ -76,6 +117,15 @@ static void enter(uint32_t *list, uint32_t k, const struct start *s)
     list[fired_at(k, FIRED_DATA)] = s->data;
 }
 
+/* It is due: it fires, or is queued. */
+static void take_due(const struct start *s, uint32_t *list, uint32_t *count)
+{
+    if (s->server)
+        enqueue(s->id);
+    else
+        enter(list, (*count)++, s);
+}
+
 /* All are due at the same tick: the earlier start fires first, where a going back counts as one. */
 static uint32_t fire_ticking(uint32_t *list)
 {
@@ -86,7 +136,7 @@ static uint32_t fire_ticking(uint32_t *list)
             at++;
             continue;
         }
-        enter(list, count++, &s);
+        take_due(&s, list, &count);
         end_start(at);
         if (s.periodic)
             waiting[waiting_count++] = s;
@@ -122,11 +172,14 @@ static uint32_t in_order(bool by_date, struct due *order)
 static uint32_t fire_dated(uint64_t second, uint32_t *list)
 {
     struct due order[MAX_SLOTS];
-    uint32_t count = 0, dated = in_order(true, order);
-    for (; count < dated && order[count].due <= second; count++)
-        enter(list, count, &waiting[order[count].place_in_list]);
-    for (uint32_t k = 0; k < count; k++)
-        end_starts_of(list[fired_at(k, FIRED_ID)]);
+    uint32_t ended[MAX_SLOTS], count = 0, due = 0, dated = in_order(true, order);
+    for (; due < dated && order[due].due <= second; due++) {
+        const struct start *s = &waiting[order[due].place_in_list];
+        ended[due] = s->id;
+        take_due(s, list, &count);
+    }
+    for (uint32_t k = 0; k < due; k++)
+        end_starts_of(ended[k]);
     return count;
 }
 
@@ -134,8 +187,9 @@ static uint32_t fire_dated(uint64_t second, uint32_t *list)
 
 static void forget_all(const struct call *c)
 {
-    waiting_count = 0, ticks = 0, clock_set = false;
+    waiting_count = 0, ticks = 0, clock_set = false, initiated = false, serves = 0;
     memset(exists, 0, sizeof exists);
+    memset(handed_by, 0, sizeof handed_by);
     slots = c->slots, ticks_per_second = c->ticks_per_second;
 }
 
@@ -143,13 +197,12 @@ static void expect_list(const struct came *came, const uint32_t *list, uint32_t 
                         const uint32_t *after, size_t words)
 {
     if (came->answer != count)
-        fail("expected %" PRIu32 " fired, came %" PRIu32, count, came->answer);
+        fail("expected %" PRIu32 " listed, came %" PRIu32, count, came->answer);
     for (size_t i = 0; i < words; i++) {
         uint32_t word = i < list_words(count) ? list[i] : before[i];
         if (after[i] != word)
             fail("list word %zu: expected %" PRIu32 ", came %" PRIu32, i, word, after[i]);
     }
-    fired_in_all += count;
 }
 
 static uint32_t after_tick(uint32_t *list)
@@ -168,6 +221,20 @@ static uint32_t after_set_clock(const struct call *c, uint32_t *list)
     clock_set = true;
     clock_ticks = libc_seconds_of(&c->time) * ticks_per_second;
     return fire_dated(clock_ticks / ticks_per_second, list);
+}
+
+/* Hands out the timer whose serve this is. */
+static uint32_t after_serve(uint32_t *list)
+{
+    serves++;
+    for (uint32_t i = 1; i <= slots; i++)
+        if (handed_by[i] == serves) {
+            enter(list, 0, &last[i]);
+            handed_by[i] = 0;
+            served_in_all++, served_sooner += sooner[i];
+            return 1;
+        }
+    return 0;
 }
 
 static void expect_ticks_left(const struct call *c, const struct came *came)
@@ -199,6 +266,12 @@ static void expect_timer(uint32_t id)
         fail("expected a refusal, since the id names no timer, came status 0");
 }
 
+static void expect_initiated(bool wanted)
+{
+    if (initiated != wanted)
+        fail("expected a refusal, since the server was %s, came status 0", initiated ? "initiated" : "not initiated");
+}
+
 static void after_create(uint32_t id)
 {
     if (id <= ID_BASE || id - ID_BASE > slots || exists[id - ID_BASE])
@@ -216,12 +289,28 @@ static void after_reset(const struct call *c)
     begin_start(again);
 }
 
+/* The start that a call other than reset makes. */
+static struct start start_of(const struct call *c)
+{
+    struct start s = {.id = c->id, .routine = c->routine, .data = c->data, .begun = ticks};
+    s.by_date = c->kind == FIRE_WHEN || c->kind == SERVER_FIRE_WHEN;
+    s.periodic = c->kind == FIRE_EVERY;
+    s.server = c->kind == SERVER_FIRE_AFTER || c->kind == SERVER_FIRE_WHEN;
+    if (s.by_date)
+        s.date = libc_seconds_of(&c->time);
+    else
+        s.ticks = c->ticks;
+    return s;
+}
+
 /* Takes an accepted call into the history. */
 static void learn(const struct call *c, const struct came *came, const uint32_t *list_before, const uint32_t *list)
 {
-    uint32_t expected[MAX_LIST];
-    if (c->kind >= CANCEL && c->kind <= TICKS_LEFT)
+    uint32_t expected[MAX_LIST], count;
+    if (oracle_takes_id(c->kind))
         expect_timer(c->id);
+    if (c->kind >= INITIATE_SERVER)
+        expect_initiated(c->kind != INITIATE_SERVER);
     switch (c->kind) {
     case LAY_OUT:
         forget_all(c);
@@ -230,20 +319,18 @@ static void learn(const struct call *c, const struct came *came, const uint32_t 
         after_create(came->answer);
         break;
     case CANCEL:
-        end_starts_of(c->id);
+        stop(c->id);
         break;
     case DELETE:
-        end_starts_of(c->id);
+        stop(c->id);
         exists[c->id - ID_BASE] = false;
         break;
     case FIRE_AFTER:
-        begin_start((struct start){c->id, c->ticks, c->routine, c->data, false, false, ticks, 0});
-        break;
     case FIRE_WHEN:
-        begin_start((struct start){c->id, 0, c->routine, c->data, true, false, ticks, libc_seconds_of(&c->time)});
-        break;
     case FIRE_EVERY:
-        begin_start((struct start){c->id, c->ticks, c->routine, c->data, false, true, ticks, 0});
+    case SERVER_FIRE_AFTER:
+    case SERVER_FIRE_WHEN:
+        begin_start(start_of(c));
         break;
     case RESET:
         after_reset(c);
@@ -252,13 +339,19 @@ static void learn(const struct call *c, const struct came *came, const uint32_t 
         expect_ticks_left(c, came);
         break;
     case TICK:
-        expect_list(came, expected, after_tick(expected), list_before, list, c->fired_words);
-        break;
     case SET_CLOCK:
-        expect_list(came, expected, after_set_clock(c, expected), list_before, list, c->fired_words);
+        count = c->kind == TICK ? after_tick(expected) : after_set_clock(c, expected);
+        expect_list(came, expected, count, list_before, list, c->fired_words);
+        fired_in_all += count;
         break;
     case GET_CLOCK:
         expect_clock(came);
+        break;
+    case INITIATE_SERVER:
+        initiated = true;
+        break;
+    case SERVE:
+        expect_list(came, expected, after_serve(expected), list_before, list, c->fired_words);
         break;
     case IDENT:
         break;      /* names are the oracle's to test */
@@ -267,16 +360,13 @@ static void learn(const struct call *c, const struct came *came, const uint32_t 
 
 /* ---- The chains ---- */
 
-static void expect_chain(bool by_date, const uint32_t *table)
+/* From this slot the chain must give these by next, and each the one before by previous. */
+static void expect_chain(const char *chain, uint32_t first, const uint32_t *expected, uint32_t count, const uint32_t *table)
 {
-    const char *chain = by_date ? "dated" : "interval";
-    struct due order[MAX_SLOTS];
-    uint32_t count = in_order(by_date, order), before = 0;
-    uint32_t at = table[by_date ? HEADER_FIRST_DATED : HEADER_FIRST_TICKING];
+    uint32_t before = 0, at = first;
     for (uint32_t i = 0; i < count; i++) {
-        uint32_t id = waiting[order[i].place_in_list].id;
-        if (at == 0 || at > slots || ID_BASE + at != id)
-            fail("place %" PRIu32 " of the %s chain: expected slot %" PRIu32 ", came %" PRIu32, i, chain, id - ID_BASE, at);
+        if (at != expected[i])
+            fail("place %" PRIu32 " of the %s: expected slot %" PRIu32 ", came %" PRIu32, i, chain, expected[i], at);
         uint32_t previous = table[slot_at(at, SLOT_PREVIOUS)];
         if (previous != before)
             fail("slot %" PRIu32 ": expected previous %" PRIu32 ", came %" PRIu32, at, before, previous);
@@ -284,7 +374,27 @@ static void expect_chain(bool by_date, const uint32_t *table)
         at = table[slot_at(at, SLOT_NEXT)];
     }
     if (at != 0)
-        fail("%s chain: expected its end after %" PRIu32 " slots, came slot %" PRIu32, chain, count, at);
+        fail("%s: expected its end after %" PRIu32 " slots, came slot %" PRIu32, chain, count, at);
+}
+
+static void expect_waiting(bool by_date, const uint32_t *table)
+{
+    struct due order[MAX_SLOTS];
+    uint32_t expected[MAX_SLOTS], count = in_order(by_date, order);
+    for (uint32_t i = 0; i < count; i++)
+        expected[i] = waiting[order[i].place_in_list].id - ID_BASE;
+    expect_chain(by_date ? "dated chain" : "interval chain", table[by_date ? HEADER_FIRST_DATED : HEADER_FIRST_TICKING],
+                 expected, count, table);
+}
+
+/* The next serve hands out the first, and so on. */
+static void expect_queue(const uint32_t *table)
+{
+    uint32_t expected[MAX_SLOTS], count = queue_length();
+    for (uint32_t i = 1; i <= slots; i++)
+        if (handed_by[i] != 0)
+            expected[handed_by[i] - serves - 1] = i;
+    expect_chain("queue", table[HEADER_FIRST_QUEUED], expected, count, table);
 }
 
 /* ---- Random calls ---- */
@@ -315,25 +425,41 @@ static void random_time(struct hc_wall_time *t)
         t->second = 59 + below(2);
 }
 
+/* Mostly of any slot, at times of one that is queued. */
+static uint32_t random_id(void)
+{
+    uint32_t index = below(slots + 2);
+    if (one_in(6))
+        for (int tries = 0; tries < 8 && (index > slots || handed_by[index] == 0); tries++)
+            index = below(slots + 2);
+    return ID_BASE + index;
+}
+
 static void random_history_call(struct call *c, size_t words)
 {
-    static const enum call_kind weights[] = {
-        CREATE, CREATE, CREATE, CANCEL, CANCEL, DELETE, FIRE_AFTER, FIRE_AFTER, FIRE_AFTER, FIRE_AFTER, FIRE_AFTER,
-        FIRE_WHEN, FIRE_WHEN, FIRE_WHEN, FIRE_EVERY, FIRE_EVERY, RESET, RESET, TICKS_LEFT, TICK, TICK, TICK, TICK, TICK, TICK,
-        GET_CLOCK, IDENT};
+    static const uint32_t weights[CALLS] = {
+        [CREATE] = 4, [IDENT] = 1, [CANCEL] = 2, [DELETE] = 1, [FIRE_AFTER] = 5, [FIRE_WHEN] = 3, [FIRE_EVERY] = 2,
+        [RESET] = 2, [TICKS_LEFT] = 1, [TICK] = 10, [GET_CLOCK] = 1, [SERVER_FIRE_AFTER] = 6, [SERVER_FIRE_WHEN] = 4,
+        [SERVE] = 4};
     memset(c, 0, sizeof *c);
-    c->kind = ONE_OF(weights);
+    c->kind = weighted_call(weights);
+    if (c->kind == SERVE && queue_length() == 0 && !one_in(4))
+        c->kind = TICK;
     if (one_in(one_in(2) ? 20 : 60))
         c->kind = SET_CLOCK;
+    if (with_server && one_in(initiated ? 200 : 5))
+        c->kind = INITIATE_SERVER;
     if (one_in(1000))
         c->kind = LAY_OUT;
     c->words = words;
     c->slots = one_in(4) ? MAX_SLOTS + 1 : slots, c->ticks_per_second = ticks_per_second;
     c->name = below(5);
-    c->id = ID_BASE + below(slots + 2);
+    c->id = random_id();
     c->ticks = one_in(50) ? random_word() : below(span) + (one_in(20) ? 0 : 1);
     c->routine = below(20), c->data = random_word();
     c->fired_words = list_words(slots) - (one_in(10) ? 1 : 0) + (one_in(3) ? 1 : 0);
+    if (c->kind == SERVE)
+        c->fired_words = FIRED_WORDS - (one_in(6) ? 1 : 0) + (one_in(3) ? 1 : 0);
     random_time(&c->time);
 }
 
@@ -352,8 +478,9 @@ static void make(struct call *c, uint32_t *table)
     }
     accepted[c->kind]++;
     learn(c, &came, list_before, list);
-    expect_chain(false, table);
-    expect_chain(true, table);
+    expect_waiting(false, table);
+    expect_waiting(true, table);
+    expect_queue(table);
 }
 
 int main(int count, char **arguments)
@@ -369,6 +496,7 @@ int main(int count, char **arguments)
         c.ticks_per_second = ONE_OF(rates);
         c.words = table_words(c.slots);
         span = ONE_OF(spans);
+        with_server = !one_in(6);
         place.table++, place.number = 0;
         make(&c, table);
         for (uint32_t i = 0; i < 1000; i++) {
@@ -377,7 +505,8 @@ int main(int count, char **arguments)
         }
     }
     printf("histories: seed %" PRIu64 ", %" PRIu64 " calls in %" PRIu64 " lists, %" PRIu64 " timers fired, %" PRIu64
-           " of them periodic ones again\n ", seed, calls, place.table, fired_in_all, fired_again);
+           " of them periodic ones again, %" PRIu64 " served, %" PRIu64 " of them sooner for others taken off\n ",
+           seed, calls, place.table, fired_in_all, fired_again, served_in_all, served_sooner);
     for (int i = 0; i < CALLS; i++)
         printf(" %s %" PRIu64, call_names[i], accepted[i]);
     puts(" accepted");
@@ -387,5 +516,7 @@ int main(int count, char **arguments)
             fail("expected %s to be accepted at times, came only refusals", call_names[i]);
     if (fired_again == 0)
         fail("expected periodic timers to fire again, came none");
+    if (served_sooner == 0 || served_sooner == served_in_all)
+        fail("expected timers to be served, some of them sooner for others taken off, came none or no others");
     return 0;
 }

@@ -5,10 +5,13 @@
 #include <string.h>
 
 const char *const call_names[CALLS] = {"lay_out", "create", "ident", "cancel", "delete", "fire_after", "fire_when",
-                                       "fire_every", "reset", "ticks_left", "tick", "set_clock", "get_clock"};
+                                       "fire_every", "reset", "ticks_left", "tick", "set_clock", "get_clock",
+                                       "initiate_server", "server_fire_after", "server_fire_when", "serve"};
 
 const char *const reason_texts[REASONS] = {
     [ACCEPTED] = "accepted", [TABLE_NOT_SOUND] = "table not sound", [LIST_SHORT] = "list shorter than 3N words",
+    [SERVED_SHORT] = "list shorter than 3 words", [INITIATED_ALREADY] = "server initiated already",
+    [NOT_INITIATED] = "server not initiated",
     [SLOTS_BELOW] = "no slots", [SLOTS_ABOVE] = "too many slots", [TPS_BELOW] = "no ticks in a second",
     [TPS_ABOVE] = "too many ticks in a second", [WORDS_SHORT] = "fewer than 10 + 8N words", [NAME_ZERO] = "name 0",
     [NAME_UNKNOWN] = "no such name", [NONE_FREE] = "no slot is free", [ID_BELOW] = "id below the first",
@@ -16,14 +19,21 @@ const char *const reason_texts[REASONS] = {
     [ROUTINE_ZERO] = "routine 0", [CLOCK_UNSET] = "clock not set", [BAD_YEAR] = "year", [BAD_MONTH] = "month",
     [BAD_DAY] = "day", [BAD_HOUR] = "hour", [BAD_MINUTE] = "minute", [BAD_SECOND] = "second",
     [DATE_NOT_AFTER] = "date not after the present second", [NEVER_STARTED_YET] = "kind 1",
-    [IDLE_BY_DATE] = "kind 3", [WAITS_FOR_DATE] = "kind 5"};
+    [IDLE_BY_DATE] = "kind 3", [WAITS_FOR_DATE] = "kind 5", [IDLE_SERVER_BY_DATE] = "kind 9",
+    [SERVER_WAITS_FOR_DATE] = "kind 11", [QUEUED_BY_DATE] = "kind 13"};
 
 const uint32_t reason_statuses[REASONS] = {
-    [TABLE_NOT_SOUND] = 100, [LIST_SHORT] = 101, [SLOTS_BELOW] = 10, [SLOTS_ABOVE] = 10, [TPS_BELOW] = 10,
-    [TPS_ABOVE] = 10, [WORDS_SHORT] = 8, [NAME_ZERO] = 3, [NAME_UNKNOWN] = 3, [NONE_FREE] = 5, [ID_BELOW] = 4,
-    [ID_ABOVE] = 4, [ID_FREE] = 4, [TICKS_ZERO] = 10, [ROUTINE_ZERO] = 9, [CLOCK_UNSET] = 11, [BAD_YEAR] = 20,
-    [BAD_MONTH] = 20, [BAD_DAY] = 20, [BAD_HOUR] = 20, [BAD_MINUTE] = 20, [BAD_SECOND] = 20, [DATE_NOT_AFTER] = 20,
-    [NEVER_STARTED_YET] = 11, [IDLE_BY_DATE] = 11, [WAITS_FOR_DATE] = 11};
+    [TABLE_NOT_SOUND] = 100, [LIST_SHORT] = 101, [SERVED_SHORT] = 101, [INITIATED_ALREADY] = 14, [NOT_INITIATED] = 14,
+    [SLOTS_BELOW] = 10, [SLOTS_ABOVE] = 10, [TPS_BELOW] = 10, [TPS_ABOVE] = 10, [WORDS_SHORT] = 8, [NAME_ZERO] = 3,
+    [NAME_UNKNOWN] = 3, [NONE_FREE] = 5, [ID_BELOW] = 4, [ID_ABOVE] = 4, [ID_FREE] = 4, [TICKS_ZERO] = 10,
+    [ROUTINE_ZERO] = 9, [CLOCK_UNSET] = 11, [BAD_YEAR] = 20, [BAD_MONTH] = 20, [BAD_DAY] = 20,
+    [BAD_HOUR] = 20, [BAD_MINUTE] = 20, [BAD_SECOND] = 20, [DATE_NOT_AFTER] = 20,
+    [NEVER_STARTED_YET] = 11, [IDLE_BY_DATE] = 11, [WAITS_FOR_DATE] = 11, [IDLE_SERVER_BY_DATE] = 11,
+    [SERVER_WAITS_FOR_DATE] = 11, [QUEUED_BY_DATE] = 11};
+
+const char *const queue_place_texts[QUEUE_PLACES] = {
+    [NOT_QUEUED] = "not queued", [QUEUED_ALONE] = "queued alone", [QUEUED_FIRST] = "queued ahead of others",
+    [QUEUED_BETWEEN] = "queued between others", [QUEUED_LAST] = "queued behind others"};
 
 const char *const turn_texts[TURNS] = {
     [PERIODIC_AFTER_ONE_SHOT] = "a periodic timer fires after a one-shot one",
@@ -33,15 +43,26 @@ const char *const turn_texts[TURNS] = {
     [BACK_AFTER_SHORTER] = "a periodic timer goes back after one of a shorter interval",
     [BACK_AFTER_LONGER] = "a periodic timer goes back after one of a longer interval",
     [BACK_BEHIND_OTHER] = "a periodic timer goes back behind one that waits for the same tick",
-    [BACK_AHEAD_OF_LATER] = "a periodic timer goes back ahead of one that waits longer"};
+    [BACK_AHEAD_OF_LATER] = "a periodic timer goes back ahead of one that waits longer",
+    [BACK_BESIDE_QUEUED] = "a periodic timer goes back and another is queued",
+    [TICKING_QUEUED_AFTER_FIRED] = "an interval timer is queued after one fires",
+    [TICKING_FIRED_AFTER_QUEUED] = "an interval timer fires after one is queued",
+    [TICKING_QUEUED_AFTER_QUEUED] = "an interval timer is queued after another",
+    [DATED_QUEUED_AFTER_FIRED] = "a dated timer is queued after one fires",
+    [DATED_FIRED_AFTER_QUEUED] = "a dated timer fires after one is queued",
+    [DATED_QUEUED_AFTER_QUEUED] = "a dated timer is queued after another",
+    [DATED_QUEUED_AFTER_TICKING] = "a dated timer is queued after an interval timer",
+    [QUEUED_BEHIND_OTHERS] = "a timer is queued behind others from before",
+    [QUEUED_AND_NONE_FIRED] = "a timer is queued and none fires"};
 
 const char *const part_texts[PARTS] = {
     [PART_HEADER_SHORT] = "fewer than 10 words", [PART_SLOTS_BELOW] = "no slots", [PART_SLOTS_ABOVE] = "more than 255 slots",
     [PART_WORDS] = "fewer than 10 + 8N words",
     [PART_TPS] = "ticks in a second", [PART_CLOCK_SET] = "clock set", [PART_SECONDS] = "seconds",
-    [PART_CLOCK_TICKS] = "ticks into the second", [PART_ZEROS] = "words 7 to 9",
+    [PART_CLOCK_TICKS] = "ticks into the second", [PART_ZERO] = "word 7 not 0", [PART_INITIATED] = "word 8 above 1",
     [PART_UNSET_CLOCK] = "words 3 and 4 of an unset clock", [PART_UNSET_DATED] = "word 6 of an unset clock",
-    [PART_KIND] = "kind above 7", [PART_FREE] = "free slot not zero", [PART_NEVER_NAME] = "kind 1 without a name",
+    [PART_KIND] = "kind above 13", [PART_SERVER_KIND] = "timer of a server that is not initiated",
+    [PART_FREE] = "free slot not zero", [PART_NEVER_NAME] = "kind 1 without a name",
     [PART_NEVER_REST] = "kind 1 not zero", [PART_NAME] = "name 0", [PART_ROUTINE] = "routine 0",
     [PART_INTERVAL] = "interval 0", [PART_NO_INTERVAL] = "interval of a dated timer", [PART_IDLE_WAIT] = "idle with a wait",
     [PART_IDLE_LINKS] = "idle with links", [PART_TICKING_CHAIN] = "interval chain does not meet its slots once each",
@@ -49,15 +70,98 @@ const char *const part_texts[PARTS] = {
     [PART_LEFT] = "ticks left above the interval",
     [PART_DATED_CHAIN] = "dated chain does not meet its slots once each",
     [PART_DATED_PREVIOUS] = "previous in the dated chain", [PART_DATE_ABOVE] = "date not above word 3",
-    [PART_DATE_LAST] = "date past the last second", [PART_DATES_RISE] = "dates fall along the chain"};
+    [PART_DATE_LAST] = "date past the last second", [PART_DATES_RISE] = "dates fall along the chain",
+    [PART_QUEUE] = "queue does not meet its slots once each", [PART_QUEUE_PREVIOUS] = "previous in the queue",
+    [PART_QUEUED_WAIT] = "queued with a wait"};
 
 /* The statuses of each call in their order of refusal; 0 where it has no more. */
-enum { MOST_REFUSALS = 5 };
+enum { MOST_REFUSALS = 6 };
 static const uint32_t orders[CALLS][MOST_REFUSALS] = {
     [LAY_OUT] = {10, 8}, [CREATE] = {100, 3, 5}, [IDENT] = {100, 3}, [CANCEL] = {100, 4}, [DELETE] = {100, 4},
     [FIRE_AFTER] = {100, 10, 9, 4}, [FIRE_WHEN] = {100, 11, 9, 20, 4}, [FIRE_EVERY] = {100, 10, 9, 4},
     [RESET] = {100, 4, 11}, [TICKS_LEFT] = {100, 4}, [TICK] = {100, 101}, [SET_CLOCK] = {100, 101, 20},
-    [GET_CLOCK] = {100, 11}};
+    [GET_CLOCK] = {100, 11}, [INITIATE_SERVER] = {100, 14}, [SERVER_FIRE_AFTER] = {100, 14, 10, 9, 4},
+    [SERVER_FIRE_WHEN] = {100, 14, 11, 9, 20, 4}, [SERVE] = {100, 101, 14}};
+
+/* ---- Reasons, calls and kinds ---- */
+
+static uint64_t bit(enum reason reason, bool applies)
+{
+    return applies ? UINT64_C(1) << reason : 0;
+}
+
+static bool is_start(enum call_kind kind)
+{
+    return kind == FIRE_AFTER || kind == FIRE_WHEN || kind == FIRE_EVERY || kind == SERVER_FIRE_AFTER ||
+           kind == SERVER_FIRE_WHEN;
+}
+
+bool oracle_takes_id(enum call_kind kind)
+{
+    return is_start(kind) || kind == CANCEL || kind == DELETE || kind == RESET || kind == TICKS_LEFT;
+}
+
+static bool waits_for_ticks(uint32_t kind)
+{
+    return kind == KIND_TICKING || kind == KIND_PERIODIC || kind == KIND_SERVER_TICKING;
+}
+
+static bool waits_for_date(uint32_t kind)
+{
+    return kind == KIND_DATED || kind == KIND_SERVER_DATED;
+}
+
+static bool is_queued(uint32_t kind)
+{
+    return kind == KIND_QUEUED_TICKING || kind == KIND_QUEUED_DATED;
+}
+
+static bool idle(uint32_t kind)
+{
+    return kind == KIND_IDLE_TICKING || kind == KIND_IDLE_DATED || kind == KIND_IDLE_PERIODIC ||
+           kind == KIND_IDLE_SERVER_TICKING || kind == KIND_IDLE_SERVER_DATED;
+}
+
+static bool by_date(uint32_t kind)
+{
+    return kind == KIND_IDLE_DATED || kind == KIND_DATED || kind == KIND_IDLE_SERVER_DATED || kind == KIND_SERVER_DATED ||
+           kind == KIND_QUEUED_DATED;
+}
+
+static bool of_server(uint32_t kind)
+{
+    return kind >= KIND_IDLE_SERVER_TICKING && kind <= KIND_QUEUED_DATED;
+}
+
+/* Where the slot stands in the queue, from 0; the number of those queued if it does not. */
+static uint32_t place_in_queue(const struct oracle *o, uint32_t index)
+{
+    uint32_t place = 0;
+    while (place < o->queued && o->queue[place] != index)
+        place++;
+    return place;
+}
+
+static uint32_t kind_of(const struct oracle *o, uint32_t index)
+{
+    const struct oracle_timer *t = &o->timer[index];
+    bool dated = t->started == BY_DATE;
+    if (!t->exists)
+        return KIND_FREE;
+    if (t->started == NEVER)
+        return KIND_NEVER_STARTED;
+    if (t->server && t->waiting)
+        return dated ? KIND_SERVER_DATED : KIND_SERVER_TICKING;
+    if (t->server && place_in_queue(o, index) < o->queued)
+        return dated ? KIND_QUEUED_DATED : KIND_QUEUED_TICKING;
+    if (t->server)
+        return dated ? KIND_IDLE_SERVER_DATED : KIND_IDLE_SERVER_TICKING;
+    if (t->periodic)
+        return t->waiting ? KIND_PERIODIC : KIND_IDLE_PERIODIC;
+    if (t->waiting)
+        return dated ? KIND_DATED : KIND_TICKING;
+    return dated ? KIND_IDLE_DATED : KIND_IDLE_TICKING;
+}
 
 /* ---- The calendar ---- */
 
@@ -90,26 +194,26 @@ static void list_days(void)
 }
 
 /* The reasons for which no such date exists. */
-static uint32_t date_faults(const struct hc_wall_time *time)
+static uint64_t date_faults(const struct hc_wall_time *time)
 {
     if (days[0].year == 0)
         list_days();
-    uint32_t faults = 0;
+    uint64_t faults = 0;
     bool year = time->year >= FIRST_YEAR && time->year < FIRST_YEAR + YEARS;
     bool month = time->month >= 1 && time->month <= 12;
     bool day = time->day >= 1 && time->day <= 31;
     if (!year)
-        faults |= 1u << BAD_YEAR;
+        faults |= bit(BAD_YEAR, true);
     if (!month)
-        faults |= 1u << BAD_MONTH;
+        faults |= bit(BAD_MONTH, true);
     if (!day || (year && month && day_number[time->year - FIRST_YEAR][time->month - 1][time->day - 1] < 0))
-        faults |= 1u << BAD_DAY;
+        faults |= bit(BAD_DAY, true);
     if (time->hour >= 24)
-        faults |= 1u << BAD_HOUR;
+        faults |= bit(BAD_HOUR, true);
     if (time->minute >= 60)
-        faults |= 1u << BAD_MINUTE;
+        faults |= bit(BAD_MINUTE, true);
     if (time->second >= 60)
-        faults |= 1u << BAD_SECOND;
+        faults |= bit(BAD_SECOND, true);
     return faults;
 }
 
@@ -134,12 +238,7 @@ void oracle_date_of(uint32_t seconds, struct hc_wall_time *time)
 
 /* ---- Refusals ---- */
 
-static uint32_t bit(enum reason reason, bool applies)
-{
-    return applies ? 1u << reason : 0;
-}
-
-static uint32_t id_faults(const struct oracle *o, uint32_t id)
+static uint64_t id_faults(const struct oracle *o, uint32_t id)
 {
     if (id < ID_BASE + 1)
         return bit(ID_BELOW, true);
@@ -166,32 +265,38 @@ static uint32_t free_slots(const struct oracle *o, uint32_t *lowest)
     return count;
 }
 
-static uint32_t lay_out_faults(const struct call *c)
+static uint64_t lay_out_faults(const struct call *c)
 {
     return bit(SLOTS_BELOW, c->slots == 0) | bit(SLOTS_ABOVE, c->slots > MAX_SLOTS) |
            bit(TPS_BELOW, c->ticks_per_second == 0) | bit(TPS_ABOVE, c->ticks_per_second > MAX_TICKS_PER_SECOND) |
            bit(WORDS_SHORT, c->words < table_words(c->slots));
 }
 
-static uint32_t fire_when_faults(const struct oracle *o, const struct call *c)
+static uint64_t fire_after_faults(const struct oracle *o, const struct call *c)
 {
-    uint32_t date, faults = date_faults(&c->time);
-    bool dated = oracle_seconds_of(&c->time, &date);
-    return faults | bit(DATE_NOT_AFTER, o->clock_set && dated && date <= o->seconds) | bit(CLOCK_UNSET, !o->clock_set) |
-           bit(ROUTINE_ZERO, c->routine == 0) | id_faults(o, c->id);
+    return bit(TICKS_ZERO, c->ticks == 0) | bit(ROUTINE_ZERO, c->routine == 0) | id_faults(o, c->id);
 }
 
-static uint32_t reset_faults(const struct oracle *o, const struct call *c)
+static uint64_t fire_when_faults(const struct oracle *o, const struct call *c)
 {
-    uint32_t faults = id_faults(o, c->id);
+    uint32_t date;
+    bool dated = oracle_seconds_of(&c->time, &date);
+    return date_faults(&c->time) | bit(DATE_NOT_AFTER, o->clock_set && dated && date <= o->seconds) |
+           bit(CLOCK_UNSET, !o->clock_set) | bit(ROUTINE_ZERO, c->routine == 0) | id_faults(o, c->id);
+}
+
+static uint64_t reset_faults(const struct oracle *o, const struct call *c)
+{
+    uint64_t faults = id_faults(o, c->id);
     if (faults)
         return faults;
-    const struct oracle_timer *t = &o->timer[c->id - ID_BASE];
-    return bit(NEVER_STARTED_YET, t->started == NEVER) | bit(IDLE_BY_DATE, t->started == BY_DATE && !t->waiting) |
-           bit(WAITS_FOR_DATE, t->started == BY_DATE && t->waiting);
+    uint32_t kind = kind_of(o, c->id - ID_BASE);
+    return bit(NEVER_STARTED_YET, kind == KIND_NEVER_STARTED) | bit(IDLE_BY_DATE, kind == KIND_IDLE_DATED) |
+           bit(WAITS_FOR_DATE, kind == KIND_DATED) | bit(IDLE_SERVER_BY_DATE, kind == KIND_IDLE_SERVER_DATED) |
+           bit(SERVER_WAITS_FOR_DATE, kind == KIND_SERVER_DATED) | bit(QUEUED_BY_DATE, kind == KIND_QUEUED_DATED);
 }
 
-static uint32_t faults_of(const struct oracle *o, const struct call *c)
+static uint64_t faults_of(const struct oracle *o, const struct call *c)
 {
     uint32_t unused;
     bool list_short = c->fired_words < list_words(o->slots);
@@ -208,7 +313,7 @@ static uint32_t faults_of(const struct oracle *o, const struct call *c)
         return id_faults(o, c->id);
     case FIRE_AFTER:
     case FIRE_EVERY:
-        return bit(TICKS_ZERO, c->ticks == 0) | bit(ROUTINE_ZERO, c->routine == 0) | id_faults(o, c->id);
+        return fire_after_faults(o, c);
     case FIRE_WHEN:
         return fire_when_faults(o, c);
     case RESET:
@@ -219,20 +324,41 @@ static uint32_t faults_of(const struct oracle *o, const struct call *c)
         return bit(LIST_SHORT, list_short) | date_faults(&c->time);
     case GET_CLOCK:
         return bit(CLOCK_UNSET, !o->clock_set);
+    case INITIATE_SERVER:
+        return bit(INITIATED_ALREADY, o->initiated);
+    case SERVER_FIRE_AFTER:
+        return bit(NOT_INITIATED, !o->initiated) | fire_after_faults(o, c);
+    case SERVER_FIRE_WHEN:
+        return bit(NOT_INITIATED, !o->initiated) | fire_when_faults(o, c);
+    case SERVE:
+        return bit(SERVED_SHORT, c->fired_words < FIRED_WORDS) | bit(NOT_INITIATED, !o->initiated);
     }
     abort();    /* there is no such call */
 }
 
 /* The id names no timer, however many slots the table has. */
-static uint32_t id_argument_faults(uint32_t id)
+static uint64_t id_argument_faults(uint32_t id)
 {
     return bit(ID_BELOW, id <= ID_BASE) | bit(ID_ABOVE, id > ID_BASE + MAX_SLOTS);
 }
 
-static uint32_t argument_faults(const struct call *c, const uint32_t *table)
+static uint64_t fire_after_argument_faults(const struct call *c)
+{
+    return bit(TICKS_ZERO, c->ticks == 0) | bit(ROUTINE_ZERO, c->routine == 0) | id_argument_faults(c->id);
+}
+
+static uint64_t fire_when_argument_faults(const struct call *c, bool clock_unset)
+{
+    return bit(CLOCK_UNSET, clock_unset) | bit(ROUTINE_ZERO, c->routine == 0) | date_faults(&c->time) |
+           id_argument_faults(c->id);
+}
+
+static uint64_t argument_faults(const struct call *c, const uint32_t *table)
 {
     bool list_short = c->words > HEADER_SLOTS && c->fired_words < list_words(table[HEADER_SLOTS]);
     bool clock_unset = c->words > HEADER_CLOCK_SET && table[HEADER_CLOCK_SET] == 0;
+    bool initiated = c->words > HEADER_INITIATED && table[HEADER_INITIATED] == 1;
+    bool not_initiated = c->words > HEADER_INITIATED && table[HEADER_INITIATED] == 0;
     switch (c->kind) {
     case LAY_OUT:
         return 0;
@@ -246,32 +372,45 @@ static uint32_t argument_faults(const struct call *c, const uint32_t *table)
         return id_argument_faults(c->id);
     case FIRE_AFTER:
     case FIRE_EVERY:
-        return bit(TICKS_ZERO, c->ticks == 0) | bit(ROUTINE_ZERO, c->routine == 0) | id_argument_faults(c->id);
+        return fire_after_argument_faults(c);
     case FIRE_WHEN:
-        return bit(CLOCK_UNSET, clock_unset) | bit(ROUTINE_ZERO, c->routine == 0) | date_faults(&c->time) |
-               id_argument_faults(c->id);
+        return fire_when_argument_faults(c, clock_unset);
     case TICK:
         return bit(LIST_SHORT, list_short);
     case SET_CLOCK:
         return bit(LIST_SHORT, list_short) | date_faults(&c->time);
     case GET_CLOCK:
         return bit(CLOCK_UNSET, clock_unset);
+    case INITIATE_SERVER:
+        return bit(INITIATED_ALREADY, initiated);
+    case SERVER_FIRE_AFTER:
+        return bit(NOT_INITIATED, not_initiated) | fire_after_argument_faults(c);
+    case SERVER_FIRE_WHEN:
+        return bit(NOT_INITIATED, not_initiated) | fire_when_argument_faults(c, clock_unset);
+    case SERVE:
+        return bit(SERVED_SHORT, c->fired_words < FIRED_WORDS) | bit(NOT_INITIATED, not_initiated);
     }
     abort();    /* there is no such call */
 }
 
-void oracle_refuse_unsound(const struct call *call, const uint32_t *table, struct outcome *outcome)
+static void clear(struct outcome *outcome)
 {
-    outcome->status = HC_NOT_SOUND;
-    outcome->reason = TABLE_NOT_SOUND;
-    outcome->applying = bit(TABLE_NOT_SOUND, true) | argument_faults(call, table);
     outcome->timer_kind = KIND_FREE;
-    outcome->answer = 0;
+    outcome->queue_place = NOT_QUEUED;
+    outcome->queued_before = outcome->answer = outcome->due_count = 0;
     outcome->clock = (struct hc_wall_time){0, 0, 0, 0, 0, 0, 0};
 }
 
+void oracle_refuse_unsound(const struct call *call, const uint32_t *table, struct outcome *outcome)
+{
+    clear(outcome);
+    outcome->status = HC_NOT_SOUND;
+    outcome->reason = TABLE_NOT_SOUND;
+    outcome->applying = bit(TABLE_NOT_SOUND, true) | argument_faults(call, table);
+}
+
 /* Of the reasons that apply, one whose status comes first in the call's order. */
-static enum reason first_reason(enum call_kind kind, uint32_t applying)
+static enum reason first_reason(enum call_kind kind, uint64_t applying)
 {
     for (int place = 0; place < MOST_REFUSALS; place++)
         for (int reason = 1; reason < REASONS; reason++)
@@ -317,7 +456,15 @@ static void go_back(struct oracle *o, struct oracle_timer *t)
     t->start = ++o->starts;
 }
 
-/* All that are due come off and are listed; then the periodic ones go back in that order. */
+static void list_entry(const struct oracle *o, uint32_t index, struct outcome *out)
+{
+    out->fired[fired_at(out->answer, FIRED_ID)] = ID_BASE + index;
+    out->fired[fired_at(out->answer, FIRED_ROUTINE)] = o->timer[index].routine;
+    out->fired[fired_at(out->answer, FIRED_DATA)] = o->timer[index].data;
+    out->answer++;
+}
+
+/* All that are due come off and are listed, those of the server queued; then the periodic ones go back in that order. */
 static void fire_due(struct oracle *o, int started, uint64_t limit, struct outcome *out)
 {
     struct due list[MAX_SLOTS];
@@ -325,10 +472,11 @@ static void fire_due(struct oracle *o, int started, uint64_t limit, struct outco
     for (int i = 0; i < count; i++) {
         struct oracle_timer *t = &o->timer[list[i].index];
         t->waiting = false;
-        out->fired[fired_at(out->answer, FIRED_ID)] = ID_BASE + list[i].index;
-        out->fired[fired_at(out->answer, FIRED_ROUTINE)] = t->routine;
-        out->fired[fired_at(out->answer, FIRED_DATA)] = t->data;
-        out->answer++;
+        out->due[out->due_count++] = list[i].index;
+        if (t->server)
+            o->queue[o->queued++] = list[i].index;
+        else
+            list_entry(o, list[i].index, out);
     }
     for (int i = 0; i < count; i++)
         if (o->timer[list[i].index].periodic)
@@ -349,14 +497,34 @@ static void tick(struct oracle *o, struct outcome *out)
     fire_due(o, BY_DATE, o->seconds, out);
 }
 
-static void start(struct oracle *o, struct oracle_timer *t, const struct call *c)
+static void take_off_queue(struct oracle *o, uint32_t index)
 {
+    uint32_t left = 0;
+    for (uint32_t i = 0; i < o->queued; i++)
+        if (o->queue[i] != index)
+            o->queue[left++] = o->queue[i];
+    o->queued = left;
+}
+
+/* It neither waits nor is queued any more. */
+static void stop(struct oracle *o, uint32_t index)
+{
+    o->timer[index].waiting = false;
+    take_off_queue(o, index);
+}
+
+static void start(struct oracle *o, uint32_t index, const struct call *c)
+{
+    struct oracle_timer *t = &o->timer[index];
+    stop(o, index);
     t->waiting = true;
     t->start = ++o->starts;
     if (c->kind != RESET) {
-        t->started = c->kind == FIRE_WHEN ? BY_DATE : BY_INTERVAL;
+        bool dated = c->kind == FIRE_WHEN || c->kind == SERVER_FIRE_WHEN;
+        t->started = dated ? BY_DATE : BY_INTERVAL;
         t->periodic = c->kind == FIRE_EVERY;
-        t->interval = c->kind == FIRE_WHEN ? 0 : c->ticks;
+        t->server = c->kind == SERVER_FIRE_AFTER || c->kind == SERVER_FIRE_WHEN;
+        t->interval = dated ? 0 : c->ticks;
         t->routine = c->routine, t->data = c->data;
     }
     uint32_t date;
@@ -379,37 +547,52 @@ static void set_clock(struct oracle *o, const struct call *c, struct outcome *ou
     fire_due(o, BY_DATE, o->seconds, out);
 }
 
+static void serve(struct oracle *o, struct outcome *out)
+{
+    if (o->queued == 0)
+        return;
+    list_entry(o, o->queue[0], out);
+    take_off_queue(o, o->queue[0]);
+}
+
+static uint32_t ticks_left(const struct oracle *o, const struct oracle_timer *t)
+{
+    return t->waiting && t->started == BY_INTERVAL ? (uint32_t)(t->due - o->ticks) : 0;
+}
+
 static void apply(struct oracle *o, const struct call *c, struct outcome *out)
 {
-    struct oracle_timer *t = id_faults(o, c->id) ? NULL : &o->timer[c->id - ID_BASE];
-    uint32_t index = 0;
+    uint32_t index = c->id - ID_BASE, lowest = 0;
     switch (c->kind) {
     case LAY_OUT:
         lay_out(o, c);
         break;
     case CREATE:
-        free_slots(o, &index);
-        o->timer[index] = (struct oracle_timer){.exists = true, .name = c->name};
-        out->answer = ID_BASE + index;
+        free_slots(o, &lowest);
+        o->timer[lowest] = (struct oracle_timer){.exists = true, .name = c->name};
+        out->answer = ID_BASE + lowest;
         break;
     case IDENT:
-        slots_with_name(o, c->name, &index);
-        out->answer = ID_BASE + index;
+        slots_with_name(o, c->name, &lowest);
+        out->answer = ID_BASE + lowest;
         break;
     case CANCEL:
-        t->waiting = false;
+        stop(o, index);
         break;
     case DELETE:
-        *t = (struct oracle_timer){.exists = false};
+        stop(o, index);
+        o->timer[index] = (struct oracle_timer){.exists = false};
         break;
     case FIRE_AFTER:
     case FIRE_WHEN:
     case FIRE_EVERY:
     case RESET:
-        start(o, t, c);
+    case SERVER_FIRE_AFTER:
+    case SERVER_FIRE_WHEN:
+        start(o, index, c);
         break;
     case TICKS_LEFT:
-        out->answer = t->waiting && t->started == BY_INTERVAL ? (uint32_t)(t->due - o->ticks) : 0;
+        out->answer = ticks_left(o, &o->timer[index]);
         break;
     case TICK:
         tick(o, out);
@@ -421,27 +604,42 @@ static void apply(struct oracle *o, const struct call *c, struct outcome *out)
         oracle_date_of(o->seconds, &out->clock);
         out->clock.ticks = o->clock_ticks;
         break;
+    case INITIATE_SERVER:
+        o->initiated = true;
+        break;
+    case SERVE:
+        serve(o, out);
+        break;
     }
 }
 
-static uint32_t kind_of(const struct oracle_timer *t)
+static enum queue_place queue_place_of(const struct oracle *o, uint32_t index)
 {
-    if (!t->exists)
-        return KIND_FREE;
-    if (t->started == NEVER)
-        return KIND_NEVER_STARTED;
-    if (t->started == BY_DATE)
-        return t->waiting ? KIND_DATED : KIND_IDLE_DATED;
-    if (t->periodic)
-        return t->waiting ? KIND_PERIODIC : KIND_IDLE_PERIODIC;
-    return t->waiting ? KIND_TICKING : KIND_IDLE_TICKING;
+    uint32_t place = place_in_queue(o, index);
+    if (place == o->queued)
+        return NOT_QUEUED;
+    if (o->queued == 1)
+        return QUEUED_ALONE;
+    return place == 0 ? QUEUED_FIRST : place + 1 == o->queued ? QUEUED_LAST : QUEUED_BETWEEN;
+}
+
+/* The slot that the call is about: by its id, or the queue's first; 0 if there is none. */
+static uint32_t slot_meant(const struct oracle *o, const struct call *c)
+{
+    if (c->kind == SERVE)
+        return o->queued > 0 ? o->queue[0] : 0;
+    return oracle_takes_id(c->kind) && !id_faults(o, c->id) ? c->id - ID_BASE : 0;
 }
 
 void oracle_call(struct oracle *state, const struct call *call, struct outcome *outcome)
 {
-    outcome->timer_kind = id_faults(state, call->id) ? KIND_FREE : kind_of(&state->timer[call->id - ID_BASE]);
-    outcome->answer = 0;
-    outcome->clock = (struct hc_wall_time){0, 0, 0, 0, 0, 0, 0};
+    uint32_t index = slot_meant(state, call);
+    clear(outcome);
+    if (index != 0) {
+        outcome->timer_kind = kind_of(state, index);
+        outcome->queue_place = queue_place_of(state, index);
+    }
+    outcome->queued_before = state->queued;
     outcome->applying = faults_of(state, call);
     outcome->reason = first_reason(call->kind, outcome->applying);
     outcome->status = reason_statuses[outcome->reason];
@@ -466,27 +664,29 @@ static uint32_t encode_chain(const struct oracle *o, int started, uint32_t *tabl
     return count > 0 ? list[0].index : 0;
 }
 
+/* Writes the links of those that are queued; gives the first. */
+static uint32_t encode_queue(const struct oracle *o, uint32_t *table)
+{
+    for (uint32_t i = 0; i < o->queued; i++) {
+        table[slot_at(o->queue[i], SLOT_NEXT)] = i + 1 < o->queued ? o->queue[i + 1] : 0;
+        table[slot_at(o->queue[i], SLOT_PREVIOUS)] = i > 0 ? o->queue[i - 1] : 0;
+    }
+    return o->queued > 0 ? o->queue[0] : 0;
+}
+
 void oracle_encode(const struct oracle *o, uint32_t *table)
 {
     for (uint32_t i = 1; i <= o->slots; i++) {
         const struct oracle_timer *t = &o->timer[i];
-        uint32_t words[SLOT_WORDS] = {kind_of(t), t->name, t->interval, 0, t->routine, t->data, 0, 0};
+        uint32_t words[SLOT_WORDS] = {kind_of(o, i), t->name, t->interval, 0, t->routine, t->data, 0, 0};
         memcpy(table + slot_at(i, SLOT_KIND), words, sizeof words);
     }
     uint32_t header[HEADER_WORDS] = {o->slots, o->ticks_per_second, o->clock_set, o->seconds, o->clock_ticks};
     header[HEADER_FIRST_TICKING] = encode_chain(o, BY_INTERVAL, table);
     header[HEADER_FIRST_DATED] = encode_chain(o, BY_DATE, table);
+    header[HEADER_INITIATED] = o->initiated;
+    header[HEADER_FIRST_QUEUED] = encode_queue(o, table);
     memcpy(table, header, sizeof header);
-}
-
-static bool waits_for_ticks(uint32_t kind)
-{
-    return kind == KIND_TICKING || kind == KIND_PERIODIC;
-}
-
-static bool waits_for_date(uint32_t kind)
-{
-    return kind == KIND_DATED;
 }
 
 static void decode_chain(const uint32_t *table, uint32_t first, struct oracle *o)
@@ -506,6 +706,7 @@ void oracle_decode(const uint32_t *table, struct oracle *o)
     o->slots = table[HEADER_SLOTS], o->ticks_per_second = table[HEADER_TICKS_PER_SECOND];
     o->clock_set = table[HEADER_CLOCK_SET] == 1;
     o->seconds = table[HEADER_SECONDS], o->clock_ticks = table[HEADER_CLOCK_TICKS];
+    o->initiated = table[HEADER_INITIATED] == 1;
     for (uint32_t i = 1; i <= o->slots; i++) {
         const uint32_t *w = table + slot_at(i, SLOT_KIND);
         uint32_t kind = w[SLOT_KIND];
@@ -513,12 +714,15 @@ void oracle_decode(const uint32_t *table, struct oracle *o)
         t->exists = kind != KIND_FREE;
         t->waiting = waits_for_ticks(kind) || waits_for_date(kind);
         t->periodic = kind == KIND_PERIODIC || kind == KIND_IDLE_PERIODIC;
+        t->server = of_server(kind);
         if (kind >= KIND_IDLE_TICKING)
-            t->started = kind == KIND_IDLE_DATED || kind == KIND_DATED ? BY_DATE : BY_INTERVAL;
+            t->started = by_date(kind) ? BY_DATE : BY_INTERVAL;
         t->name = w[SLOT_NAME], t->interval = w[SLOT_INTERVAL], t->routine = w[SLOT_ROUTINE], t->data = w[SLOT_DATA];
     }
     decode_chain(table, table[HEADER_FIRST_TICKING], o);
     decode_chain(table, table[HEADER_FIRST_DATED], o);
+    for (uint32_t i = table[HEADER_FIRST_QUEUED]; i != 0; i = table[slot_at(i, SLOT_NEXT)])
+        o->queue[o->queued++] = i;
 }
 
 /* ---- Soundness ---- */
@@ -528,13 +732,14 @@ enum { MOST_READ = 300 };
 
 /* The parts that are broken, and the kinds of the slots that break them. */
 struct broken {
-    uint32_t parts, kinds;
+    uint64_t parts;
+    uint32_t kinds;
 };
 
 static void breaks(struct broken *found, bool broken, enum part part)
 {
     if (broken)
-        found->parts |= 1u << part;
+        found->parts |= UINT64_C(1) << part;
 }
 
 static void slot_breaks(struct broken *found, bool broken, enum part part, const uint32_t *slot)
@@ -553,20 +758,16 @@ static bool all_zero(const uint32_t *words, enum slot_word from)
     return true;
 }
 
-static bool idle(uint32_t kind)
-{
-    return kind == KIND_IDLE_TICKING || kind == KIND_IDLE_DATED || kind == KIND_IDLE_PERIODIC;
-}
-
 static void check_started(const uint32_t *w, struct broken *found)
 {
-    bool by_date = w[SLOT_KIND] == KIND_IDLE_DATED || w[SLOT_KIND] == KIND_DATED;
+    bool dated = by_date(w[SLOT_KIND]);
     slot_breaks(found, w[SLOT_NAME] == 0, PART_NAME, w);
     slot_breaks(found, w[SLOT_ROUTINE] == 0, PART_ROUTINE, w);
-    slot_breaks(found, !by_date && w[SLOT_INTERVAL] == 0, PART_INTERVAL, w);
-    slot_breaks(found, by_date && w[SLOT_INTERVAL] != 0, PART_NO_INTERVAL, w);
+    slot_breaks(found, !dated && w[SLOT_INTERVAL] == 0, PART_INTERVAL, w);
+    slot_breaks(found, dated && w[SLOT_INTERVAL] != 0, PART_NO_INTERVAL, w);
     slot_breaks(found, idle(w[SLOT_KIND]) && w[SLOT_WAIT] != 0, PART_IDLE_WAIT, w);
     slot_breaks(found, idle(w[SLOT_KIND]) && (w[SLOT_NEXT] != 0 || w[SLOT_PREVIOUS] != 0), PART_IDLE_LINKS, w);
+    slot_breaks(found, is_queued(w[SLOT_KIND]) && w[SLOT_WAIT] != 0, PART_QUEUED_WAIT, w);
 }
 
 static void check_slot(const uint32_t *w, struct broken *found)
@@ -585,6 +786,12 @@ static void check_slot(const uint32_t *w, struct broken *found)
     case KIND_DATED:
     case KIND_PERIODIC:
     case KIND_IDLE_PERIODIC:
+    case KIND_IDLE_SERVER_TICKING:
+    case KIND_IDLE_SERVER_DATED:
+    case KIND_SERVER_TICKING:
+    case KIND_SERVER_DATED:
+    case KIND_QUEUED_TICKING:
+    case KIND_QUEUED_DATED:
         check_started(w, found);
         break;
     default:
@@ -592,8 +799,8 @@ static void check_slot(const uint32_t *w, struct broken *found)
     }
 }
 
-/* A chain: where it begins, which kinds stand in it, what is broken if it does not meet each of their slots once, and no
- * other, and what if a previous link is wrong. */
+/* A chain or the queue: where it begins, which kinds stand in it, what is broken if it does not meet each of their slots
+ * once, and no other, and what if a previous link is wrong. */
 struct chain {
     enum header_word first;
     bool (*holds)(uint32_t kind);
@@ -601,6 +808,7 @@ struct chain {
 };
 static const struct chain ticking_chain = {HEADER_FIRST_TICKING, waits_for_ticks, PART_TICKING_CHAIN, PART_TICKING_PREVIOUS};
 static const struct chain dated_chain = {HEADER_FIRST_DATED, waits_for_date, PART_DATED_CHAIN, PART_DATED_PREVIOUS};
+static const struct chain queue = {HEADER_FIRST_QUEUED, is_queued, PART_QUEUE, PART_QUEUE_PREVIOUS};
 
 /* Follows the chain and notes its slots in their order, and how often each comes; false unless it ends at 0. */
 static bool follow(const uint32_t *table, const struct chain *chain, uint32_t *met, uint32_t *count, uint32_t *times)
@@ -663,16 +871,31 @@ static void check_dated(const uint32_t *table, struct broken *found)
     }
 }
 
+static void check_queue(const uint32_t *table, struct broken *found)
+{
+    uint32_t met[MOST_READ];
+    check_links(table, &queue, met, found);
+}
+
+/* Timers of the server occur only where it is initiated. */
+static void check_server(const uint32_t *table, struct broken *found)
+{
+    for (uint32_t i = 1; i <= table[HEADER_SLOTS]; i++) {
+        const uint32_t *w = table + slot_at(i, SLOT_KIND);
+        slot_breaks(found, of_server(w[SLOT_KIND]) && table[HEADER_INITIATED] != 1, PART_SERVER_KIND, w);
+    }
+}
+
 static void check_header(const uint32_t *table, struct broken *found)
 {
     uint32_t per_second = table[HEADER_TICKS_PER_SECOND], set = table[HEADER_CLOCK_SET];
     uint32_t seconds = table[HEADER_SECONDS], into = table[HEADER_CLOCK_TICKS];
-    const uint32_t *zeros = table + HEADER_ZEROS;
     breaks(found, per_second < 1 || per_second > MAX_TICKS_PER_SECOND, PART_TPS);
     breaks(found, set > 1, PART_CLOCK_SET);
     breaks(found, seconds > LAST_SECOND, PART_SECONDS);
     breaks(found, into >= per_second, PART_CLOCK_TICKS);
-    breaks(found, zeros[0] != 0 || zeros[1] != 0 || zeros[2] != 0, PART_ZEROS);
+    breaks(found, table[HEADER_ZERO] != 0, PART_ZERO);
+    breaks(found, table[HEADER_INITIATED] > 1, PART_INITIATED);
     breaks(found, set == 0 && (seconds != 0 || into != 0), PART_UNSET_CLOCK);
     breaks(found, set == 0 && table[HEADER_FIRST_DATED] != 0, PART_UNSET_DATED);
 }
@@ -695,9 +918,11 @@ static void check_table(const uint32_t *table, size_t words, struct broken *foun
         check_slot(table + slot_at(i, SLOT_KIND), found);
     check_ticking(table, found);
     check_dated(table, found);
+    check_queue(table, found);
+    check_server(table, found);
 }
 
-uint32_t oracle_broken(const uint32_t *table, size_t words, uint32_t *kinds)
+uint64_t oracle_broken(const uint32_t *table, size_t words, uint32_t *kinds)
 {
     struct broken found = {0, 0};
     check_table(table, words, &found);
@@ -728,13 +953,21 @@ bool oracle_possible(enum call_kind kind, enum reason reason)
                (reason >= ROUTINE_ZERO && reason <= DATE_NOT_AFTER);
     case RESET:
         return reason == TABLE_NOT_SOUND || (reason >= ID_BELOW && reason <= ID_FREE) ||
-               (reason >= NEVER_STARTED_YET && reason <= WAITS_FOR_DATE);
+               (reason >= NEVER_STARTED_YET && reason <= QUEUED_BY_DATE);
     case TICK:
         return reason == TABLE_NOT_SOUND || reason == LIST_SHORT;
     case SET_CLOCK:
         return reason == TABLE_NOT_SOUND || reason == LIST_SHORT || (reason >= BAD_YEAR && reason <= BAD_SECOND);
     case GET_CLOCK:
         return reason == TABLE_NOT_SOUND || reason == CLOCK_UNSET;
+    case INITIATE_SERVER:
+        return reason == TABLE_NOT_SOUND || reason == INITIATED_ALREADY;
+    case SERVER_FIRE_AFTER:
+        return reason == NOT_INITIATED || oracle_possible(FIRE_AFTER, reason);
+    case SERVER_FIRE_WHEN:
+        return reason == NOT_INITIATED || oracle_possible(FIRE_WHEN, reason);
+    case SERVE:
+        return reason == TABLE_NOT_SOUND || reason == SERVED_SHORT || reason == NOT_INITIATED;
     }
     abort();    /* there is no such call */
 }
@@ -762,21 +995,24 @@ bool oracle_pair_possible(enum call_kind kind, uint32_t first, uint32_t second)
     return true;
 }
 
-static bool takes_id(enum call_kind kind)
-{
-    return kind >= CANCEL && kind <= TICKS_LEFT;
-}
-
 bool oracle_takes(enum call_kind kind, uint32_t timer_kind)
 {
-    bool by_date = timer_kind == KIND_IDLE_DATED || timer_kind == KIND_DATED;
-    return takes_id(kind) && timer_kind != KIND_FREE && !(kind == RESET && (by_date || timer_kind == KIND_NEVER_STARTED));
+    if (kind == SERVE)
+        return is_queued(timer_kind);
+    if (kind == RESET && (by_date(timer_kind) || timer_kind == KIND_NEVER_STARTED))
+        return false;
+    return oracle_takes_id(kind) && timer_kind != KIND_FREE;
 }
 
-/* The starts alone are refused for other arguments than the id. */
+/* The starts alone are refused for other arguments than the id, and serve for its list. */
 bool oracle_refuses(enum call_kind kind, uint32_t timer_kind)
 {
-    return kind >= FIRE_AFTER && kind <= FIRE_EVERY && timer_kind != KIND_FREE;
+    return (is_start(kind) && timer_kind != KIND_FREE) || (kind == SERVE && is_queued(timer_kind));
+}
+
+bool oracle_takes_off(enum call_kind kind, uint32_t timer_kind)
+{
+    return is_queued(timer_kind) && kind != TICKS_LEFT && kind != SERVE && oracle_takes(kind, timer_kind);
 }
 
 static uint32_t turn(enum turn turn, bool met)
@@ -797,9 +1033,11 @@ static uint32_t turns_behind(const struct oracle *after, const struct oracle_tim
     return turns;
 }
 
-uint32_t oracle_turns(const struct oracle *after, const struct outcome *outcome)
+/* What came of those that fire, and the last one that went back. */
+static uint32_t turns_of_fired(const struct oracle *after, const struct outcome *outcome,
+                               const struct oracle_timer **last_back)
 {
-    const struct oracle_timer *back = NULL;     /* the last one that went back */
+    const struct oracle_timer *back = NULL;
     uint32_t turns = 0;
     bool one_shot = false;
     for (uint32_t k = 0; k < outcome->answer; k++) {
@@ -813,27 +1051,73 @@ uint32_t oracle_turns(const struct oracle *after, const struct outcome *outcome)
         one_shot = one_shot || !t->periodic;
         back = t->periodic ? t : back;
     }
-    return back ? turns | turns_behind(after, back) : turns;
+    *last_back = back;
+    return turns;
+}
+
+/* What came of those that are queued, and of the others of the same chain beside them. */
+static uint32_t turns_of_queued(const struct oracle *after, const struct outcome *outcome)
+{
+    uint32_t turns = 0;
+    bool fired = false, queued = false, ticking_queued = false, dated = false;
+    for (uint32_t k = 0; k < outcome->due_count; k++) {
+        const struct oracle_timer *t = &after->timer[outcome->due[k]];
+        if (t->started == BY_DATE && !dated)
+            dated = true, ticking_queued = queued, fired = queued = false;
+        turns |= turn(dated ? DATED_QUEUED_AFTER_FIRED : TICKING_QUEUED_AFTER_FIRED, t->server && fired);
+        turns |= turn(dated ? DATED_QUEUED_AFTER_QUEUED : TICKING_QUEUED_AFTER_QUEUED, t->server && queued);
+        turns |= turn(dated ? DATED_FIRED_AFTER_QUEUED : TICKING_FIRED_AFTER_QUEUED, !t->server && queued);
+        turns |= turn(DATED_QUEUED_AFTER_TICKING, t->server && ticking_queued);
+        fired = fired || !t->server;
+        queued = queued || t->server;
+    }
+    bool any = outcome->due_count > outcome->answer;
+    turns |= turn(QUEUED_BEHIND_OTHERS, any && outcome->queued_before > 0);
+    return turns | turn(QUEUED_AND_NONE_FIRED, any && outcome->answer == 0);
+}
+
+uint32_t oracle_turns(const struct oracle *after, const struct outcome *outcome)
+{
+    const struct oracle_timer *back;
+    uint32_t turns = turns_of_fired(after, outcome, &back) | turns_of_queued(after, outcome);
+    if (!back)
+        return turns;
+    return turns | turn(BACK_BESIDE_QUEUED, outcome->due_count > outcome->answer) | turns_behind(after, back);
+}
+
+/* Set clock fires dated timers alone. */
+bool oracle_turn_possible(enum call_kind kind, enum turn turn)
+{
+    if (kind == SET_CLOCK)
+        return turn == DATED_QUEUED_AFTER_FIRED || turn == DATED_FIRED_AFTER_QUEUED || turn == DATED_QUEUED_AFTER_QUEUED ||
+               turn == QUEUED_BEHIND_OTHERS || turn == QUEUED_AND_NONE_FIRED;
+    return kind == TICK;
 }
 
 #define KIND_BIT(kind) (1u << (kind))
 enum {
-    TICKING_KINDS = KIND_BIT(KIND_TICKING) | KIND_BIT(KIND_PERIODIC),
-    DATED_KINDS = KIND_BIT(KIND_DATED),
-    IDLE_KINDS = KIND_BIT(KIND_IDLE_TICKING) | KIND_BIT(KIND_IDLE_DATED) | KIND_BIT(KIND_IDLE_PERIODIC),
-    STARTED_KINDS = TICKING_KINDS | DATED_KINDS | IDLE_KINDS,
-    BY_DATE_KINDS = KIND_BIT(KIND_IDLE_DATED) | KIND_BIT(KIND_DATED)
+    IDLE_SERVER_KINDS = KIND_BIT(KIND_IDLE_SERVER_TICKING) | KIND_BIT(KIND_IDLE_SERVER_DATED),
+    WAITING_SERVER_KINDS = KIND_BIT(KIND_SERVER_TICKING) | KIND_BIT(KIND_SERVER_DATED),
+    QUEUED_KINDS = KIND_BIT(KIND_QUEUED_TICKING) | KIND_BIT(KIND_QUEUED_DATED),
+    SERVER_KINDS = IDLE_SERVER_KINDS | WAITING_SERVER_KINDS | QUEUED_KINDS,
+    TICKING_KINDS = KIND_BIT(KIND_TICKING) | KIND_BIT(KIND_PERIODIC) | KIND_BIT(KIND_SERVER_TICKING),
+    DATED_KINDS = KIND_BIT(KIND_DATED) | KIND_BIT(KIND_SERVER_DATED),
+    IDLE_KINDS = KIND_BIT(KIND_IDLE_TICKING) | KIND_BIT(KIND_IDLE_DATED) | KIND_BIT(KIND_IDLE_PERIODIC) | IDLE_SERVER_KINDS,
+    STARTED_KINDS = TICKING_KINDS | DATED_KINDS | IDLE_KINDS | QUEUED_KINDS,
+    BY_DATE_KINDS = DATED_KINDS | KIND_BIT(KIND_IDLE_DATED) | KIND_BIT(KIND_IDLE_SERVER_DATED) | KIND_BIT(KIND_QUEUED_DATED)
 };
 
 /* For each part, the kinds of slots that break it alone; 0 where it is not a slot's to break. */
 static const uint32_t kinds_that_break[PARTS] = {
-    [PART_KIND] = KIND_BIT(KINDS), [PART_FREE] = KIND_BIT(KIND_FREE), [PART_NEVER_NAME] = KIND_BIT(KIND_NEVER_STARTED),
-    [PART_NEVER_REST] = KIND_BIT(KIND_NEVER_STARTED), [PART_NAME] = STARTED_KINDS, [PART_ROUTINE] = STARTED_KINDS,
+    [PART_KIND] = KIND_BIT(KINDS), [PART_SERVER_KIND] = SERVER_KINDS, [PART_FREE] = KIND_BIT(KIND_FREE),
+    [PART_NEVER_NAME] = KIND_BIT(KIND_NEVER_STARTED), [PART_NEVER_REST] = KIND_BIT(KIND_NEVER_STARTED),
+    [PART_NAME] = STARTED_KINDS, [PART_ROUTINE] = STARTED_KINDS,
     [PART_INTERVAL] = STARTED_KINDS & ~BY_DATE_KINDS & ~TICKING_KINDS, [PART_NO_INTERVAL] = BY_DATE_KINDS,
     [PART_IDLE_WAIT] = IDLE_KINDS, [PART_IDLE_LINKS] = IDLE_KINDS, [PART_TICKING_CHAIN] = TICKING_KINDS,
     [PART_TICKING_PREVIOUS] = TICKING_KINDS, [PART_FIRST_WAIT] = TICKING_KINDS, [PART_LEFT] = TICKING_KINDS,
     [PART_DATED_CHAIN] = DATED_KINDS, [PART_DATED_PREVIOUS] = DATED_KINDS, [PART_DATE_ABOVE] = DATED_KINDS,
-    [PART_DATE_LAST] = DATED_KINDS, [PART_DATES_RISE] = DATED_KINDS};
+    [PART_DATE_LAST] = DATED_KINDS, [PART_DATES_RISE] = DATED_KINDS, [PART_QUEUE] = QUEUED_KINDS,
+    [PART_QUEUE_PREVIOUS] = QUEUED_KINDS, [PART_QUEUED_WAIT] = QUEUED_KINDS};
 
 bool oracle_breaks(enum part part, uint32_t timer_kind)
 {

@@ -1,6 +1,6 @@
 /* A second timer list, written from the text of the specification alone: a vector of timers, each with its absolute
- * due tick or date and the number of its start. No chain and no difference is kept; both appear only when the state is
- * written out as table words for comparison. */
+ * due tick or date and the number of its start, and a vector of those that are queued. No chain and no difference is kept;
+ * both appear only when the state is written out as table words for comparison. */
 #ifndef ORACLE_H
 #define ORACLE_H
 
@@ -13,23 +13,26 @@
 enum { MAX_SLOTS = 255, MAX_TICKS_PER_SECOND = 1000 };
 enum header_word {
     HEADER_SLOTS, HEADER_TICKS_PER_SECOND, HEADER_CLOCK_SET, HEADER_SECONDS, HEADER_CLOCK_TICKS, HEADER_FIRST_TICKING,
-    HEADER_FIRST_DATED, HEADER_ZEROS, HEADER_WORDS = 10
+    HEADER_FIRST_DATED, HEADER_ZERO, HEADER_INITIATED, HEADER_FIRST_QUEUED, HEADER_WORDS
 };
 enum slot_word {
     SLOT_KIND, SLOT_NAME, SLOT_INTERVAL, SLOT_WAIT, SLOT_ROUTINE, SLOT_DATA, SLOT_NEXT, SLOT_PREVIOUS, SLOT_WORDS
 };
 enum {
     KIND_FREE, KIND_NEVER_STARTED, KIND_IDLE_TICKING, KIND_IDLE_DATED, KIND_TICKING, KIND_DATED, KIND_PERIODIC,
-    KIND_IDLE_PERIODIC, KINDS
+    KIND_IDLE_PERIODIC, KIND_IDLE_SERVER_TICKING, KIND_IDLE_SERVER_DATED, KIND_SERVER_TICKING, KIND_SERVER_DATED,
+    KIND_QUEUED_TICKING, KIND_QUEUED_DATED, KINDS
 };
 enum fired_word { FIRED_ID, FIRED_ROUTINE, FIRED_DATA, FIRED_WORDS };
+
+_Static_assert(HEADER_WORDS == 10 && SLOT_WORDS == 8 && FIRED_WORDS == 3 && KINDS == 14, "the layout's numbers");
 
 enum { MAX_TABLE = HEADER_WORDS + SLOT_WORDS * MAX_SLOTS, MAX_LIST = FIRED_WORDS * MAX_SLOTS };
 #define ID_BASE 0x12010000u
 #define LAST_SECOND 3534451199u
 
-/* Words that a table of so many slots takes and that its fired list must have; in 64 bits, since slot counts that are
- * too high are tried too. */
+/* Words that a table of so many slots takes and that its fired list must have, and also those of so many entries; in 64 bits,
+ * since slot counts that are too high are tried too. */
 static inline uint64_t table_words(uint32_t slots)
 {
     return HEADER_WORDS + (uint64_t)SLOT_WORDS * slots;
@@ -55,15 +58,15 @@ static inline size_t fired_at(uint32_t k, enum fired_word word)
 
 enum call_kind {
     LAY_OUT, CREATE, IDENT, CANCEL, DELETE, FIRE_AFTER, FIRE_WHEN, FIRE_EVERY, RESET, TICKS_LEFT, TICK, SET_CLOCK,
-    GET_CLOCK
+    GET_CLOCK, INITIATE_SERVER, SERVER_FIRE_AFTER, SERVER_FIRE_WHEN, SERVE
 };
-enum { CALLS = GET_CLOCK + 1 };     /* no call itself, so that a switch over the calls needs no other case */
+enum { CALLS = SERVE + 1 };         /* no call itself, so that a switch over the calls needs no other case */
 
 /* One call with its arguments; those that its kind does not take are not looked at. */
 struct call {
     enum call_kind kind;
     size_t words;                   /* length of the table's slice */
-    size_t fired_words;             /* length of the fired list */
+    size_t fired_words;             /* length of the list */
     uint32_t slots, ticks_per_second;
     uint32_t name, id, ticks, routine, data;
     struct hc_wall_time time;
@@ -72,31 +75,39 @@ struct call {
 /* Why a call is refused: finer than the statuses, so that a test can tell which of them it has met. */
 enum reason {
     ACCEPTED,
-    TABLE_NOT_SOUND, LIST_SHORT,
+    TABLE_NOT_SOUND, LIST_SHORT, SERVED_SHORT, INITIATED_ALREADY, NOT_INITIATED,
     SLOTS_BELOW, SLOTS_ABOVE, TPS_BELOW, TPS_ABOVE, WORDS_SHORT,
     NAME_ZERO, NAME_UNKNOWN, NONE_FREE,
     ID_BELOW, ID_ABOVE, ID_FREE,
     TICKS_ZERO, ROUTINE_ZERO, CLOCK_UNSET,
     BAD_YEAR, BAD_MONTH, BAD_DAY, BAD_HOUR, BAD_MINUTE, BAD_SECOND, DATE_NOT_AFTER,
-    NEVER_STARTED_YET, IDLE_BY_DATE, WAITS_FOR_DATE,
+    NEVER_STARTED_YET, IDLE_BY_DATE, WAITS_FOR_DATE, IDLE_SERVER_BY_DATE, SERVER_WAITS_FOR_DATE, QUEUED_BY_DATE,
     REASONS
 };
+
+/* Where in the queue a timer stands. */
+enum queue_place { NOT_QUEUED, QUEUED_ALONE, QUEUED_FIRST, QUEUED_BETWEEN, QUEUED_LAST, QUEUE_PLACES };
 
 struct outcome {
     uint32_t status;
     enum reason reason;             /* one that gives the status */
-    uint32_t applying;              /* all reasons that apply, a bit each */
-    uint32_t timer_kind;            /* before the call, of the timer that its id names; KIND_FREE if there is none */
+    uint64_t applying;              /* all reasons that apply, a bit each */
+    uint32_t timer_kind;            /* before the call, of the timer that its id names, or of the queue's first for serve;
+                                       KIND_FREE if there is none */
+    enum queue_place queue_place;   /* before the call, of that timer */
+    uint32_t queued_before;         /* timers in the queue */
     uint32_t answer;
     struct hc_wall_time clock;      /* get clock's answer */
-    uint32_t fired[MAX_LIST];       /* as many entries as the answer, for tick and set clock */
+    uint32_t fired[MAX_LIST];       /* as many entries as the answer, for tick, set clock and serve */
+    uint32_t due[MAX_SLOTS], due_count;     /* the slots that came due in a tick or set clock, fired and queued, in order */
 };
-_Static_assert(REASONS <= 32, "a set of reasons fits a word");
+_Static_assert(REASONS <= 64, "a set of reasons fits its word");
 
 struct oracle_timer {
     bool exists, waiting;
     enum { NEVER, BY_INTERVAL, BY_DATE } started;
     bool periodic;                  /* then by interval */
+    bool server;                    /* then not periodic */
     uint32_t name, interval, routine, data;
     uint64_t due;                   /* the tick since lay out, or the second */
     uint64_t start;                 /* number of its last start or going back, counted from lay out */
@@ -108,31 +119,39 @@ struct oracle {
     uint32_t seconds, clock_ticks;
     uint64_t ticks, starts;         /* so far */
     struct oracle_timer timer[MAX_SLOTS + 1];
+    bool initiated;
+    uint32_t queue[MAX_SLOTS], queued;      /* slots from the front, and how many */
 };
 
-/* What a tick may come to, a bit each in what oracle_turns gives. Calls alone lead to no table where, of timers due at the
- * same tick, one with a shorter interval stands ahead of one with a longer: that one was started earlier. */
+/* What a tick or set clock may come to, a bit each in what oracle_turns gives. Calls alone lead to no table where, of timers
+ * due at the same tick, one with a shorter interval stands ahead of one with a longer: that one was started earlier. */
 enum turn {
     PERIODIC_AFTER_ONE_SHOT, ONE_SHOT_AFTER_PERIODIC, DATED_AFTER_PERIODIC, BACK_AFTER_EQUAL, BACK_AFTER_LONGER,
-    BACK_BEHIND_OTHER, BACK_AHEAD_OF_LATER, TURNS_OF_CALLS,
+    BACK_BEHIND_OTHER, BACK_AHEAD_OF_LATER, BACK_BESIDE_QUEUED,
+    TICKING_QUEUED_AFTER_FIRED, TICKING_FIRED_AFTER_QUEUED, TICKING_QUEUED_AFTER_QUEUED,
+    DATED_QUEUED_AFTER_FIRED, DATED_FIRED_AFTER_QUEUED, DATED_QUEUED_AFTER_QUEUED, DATED_QUEUED_AFTER_TICKING,
+    QUEUED_BEHIND_OTHERS, QUEUED_AND_NONE_FIRED, TURNS_OF_CALLS,
     BACK_AFTER_SHORTER = TURNS_OF_CALLS, TURNS
 };
+_Static_assert(TURNS <= 32, "a set of turns fits a word");
 
 /* The parts of soundness, a bit each in what oracle_broken gives. */
 enum part {
     PART_HEADER_SHORT, PART_SLOTS_BELOW, PART_SLOTS_ABOVE, PART_WORDS, PART_TPS, PART_CLOCK_SET, PART_SECONDS,
-    PART_CLOCK_TICKS, PART_ZEROS, PART_UNSET_CLOCK, PART_UNSET_DATED,
-    PART_KIND, PART_FREE, PART_NEVER_NAME, PART_NEVER_REST, PART_NAME, PART_ROUTINE, PART_INTERVAL,
+    PART_CLOCK_TICKS, PART_ZERO, PART_INITIATED, PART_UNSET_CLOCK, PART_UNSET_DATED,
+    PART_KIND, PART_SERVER_KIND, PART_FREE, PART_NEVER_NAME, PART_NEVER_REST, PART_NAME, PART_ROUTINE, PART_INTERVAL,
     PART_NO_INTERVAL, PART_IDLE_WAIT, PART_IDLE_LINKS,
     PART_TICKING_CHAIN, PART_TICKING_PREVIOUS, PART_FIRST_WAIT, PART_LEFT,
     PART_DATED_CHAIN, PART_DATED_PREVIOUS, PART_DATE_ABOVE, PART_DATE_LAST, PART_DATES_RISE,
+    PART_QUEUE, PART_QUEUE_PREVIOUS, PART_QUEUED_WAIT,
     PARTS
 };
-_Static_assert(PARTS <= 32, "a set of parts fits a word");
+_Static_assert(PARTS <= 64, "a set of parts fits its word");
 
 extern const char *const call_names[CALLS];
 extern const char *const reason_texts[REASONS];
 extern const uint32_t reason_statuses[REASONS];
+extern const char *const queue_place_texts[QUEUE_PLACES];
 extern const char *const turn_texts[TURNS];
 extern const char *const part_texts[PARTS];
 
@@ -144,7 +163,7 @@ void oracle_encode(const struct oracle *state, uint32_t *table);
 
 /* The parts of soundness that the slice breaks; 0 if it is sound. The kinds of the slots that break them, a bit each, go to
  * kinds; all above the last are the one after it. */
-uint32_t oracle_broken(const uint32_t *table, size_t words, uint32_t *kinds);
+uint64_t oracle_broken(const uint32_t *table, size_t words, uint32_t *kinds);
 
 /* What a call other than lay out gives on a table that is not sound: a refusal with 100. Of the other reasons, those apply
  * that the arguments give alone, or one header word where the slice has it: they must come second. */
@@ -161,12 +180,19 @@ void oracle_date_of(uint32_t seconds, struct hc_wall_time *time);
 bool oracle_possible(enum call_kind kind, enum reason reason);
 bool oracle_pair_possible(enum call_kind kind, uint32_t first, uint32_t second);
 
-/* What an accepted tick came to that gave this and left this state. */
+/* What an accepted tick or set clock came to that gave this and left this state; and may this call come to that. */
 uint32_t oracle_turns(const struct oracle *after, const struct outcome *outcome);
+bool oracle_turn_possible(enum call_kind kind, enum turn turn);
 
-/* May the call be accepted, or refused, with the id of a timer of this kind. */
+/* Does the call take an id. */
+bool oracle_takes_id(enum call_kind kind);
+
+/* May the call be accepted, or refused, with the id of a timer of this kind, or by serve for a timer of this kind. */
 bool oracle_takes(enum call_kind kind, uint32_t timer_kind);
 bool oracle_refuses(enum call_kind kind, uint32_t timer_kind);
+
+/* Does the call, where it is accepted, take a queued timer of this kind off the queue by its id. */
+bool oracle_takes_off(enum call_kind kind, uint32_t timer_kind);
 
 /* May a slot of this kind alone break this part of soundness. */
 bool oracle_breaks(enum part part, uint32_t timer_kind);

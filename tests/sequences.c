@@ -9,6 +9,7 @@
 
 static struct outcome expected;
 static uint64_t calls, cut_slices, locked_tables, started_tables, table_pairs;
+static uint32_t longest_queue;
 
 /* One slice for the sequence. A locked one has its words past the table in a page that may not be touched: the length that
  * is passed then is not true, on purpose. A caller may not do that; but the specification says that words past the table
@@ -27,7 +28,7 @@ struct sequence {
  * the other. */
 static struct sequence pair[2];
 
-enum { MOST_LOCKED = 200 };
+enum { MOST_LOCKED = 200, LONG_QUEUE = 8 };
 
 static void new_sequence(struct sequence *s, struct lent *memory)
 {
@@ -45,7 +46,7 @@ static void new_sequence(struct sequence *s, struct lent *memory)
     memset(&s->oracle, 0, sizeof s->oracle);
     started_tables += s->at_start;
     place.table++, place.number = 0;
-    random_span();
+    random_manner();
 }
 
 static void go_to(const struct sequence *s, const struct call *c, uint32_t *table)
@@ -60,6 +61,8 @@ static void make(struct sequence *s, const struct call *c)
     go_to(s, c, s->table);
     oracle_call(&s->oracle, c, &expected);
     try_call(&expected, &s->oracle);
+    if (s->oracle.queued > longest_queue)
+        longest_queue = s->oracle.queued;
 }
 
 /* The same call on the table's first words only, in their own place beside the closed page. */
@@ -86,7 +89,7 @@ static void make_cut(struct sequence *s, struct call *c)
 static void next_call(struct sequence *s)
 {
     struct call c;
-    if (s->oracle.slots == 0 || one_in(150)) {
+    if (s->oracle.slots == 0 || one_in(150 + 5 * s->most)) {
         random_lay_out(s->most, s->capacity, &c);
         if (c.slots > s->most && c.slots <= MAX_SLOTS && s->capacity > s->reachable)
             c.slots = s->most;
@@ -95,7 +98,7 @@ static void next_call(struct sequence *s)
     }
     random_call(&s->oracle, &c);
     c.words = s->capacity;
-    if (s->capacity == s->reachable && one_in(40)) {
+    if (s->capacity == s->reachable && one_in(30)) {
         make_cut(s, &c);
         return;
     }
@@ -153,12 +156,15 @@ int main(int count, char **arguments)
             try_table();
     }
     printf("sequences: seed %" PRIu64 ", %" PRIu64 " calls on %" PRIu64 " tables (%" PRIu64 " with the words past them "
-           "locked, %" PRIu64 " with those before them), %" PRIu64 " pairs in turn, %" PRIu64 " calls on slices cut short\n",
-           seed, calls, place.table, locked_tables, started_tables, table_pairs, cut_slices);
+           "locked, %" PRIu64 " with those before them), %" PRIu64 " pairs in turn, %" PRIu64 " calls on slices cut short, "
+           "up to %" PRIu32 " timers queued\n",
+           seed, calls, place.table, locked_tables, started_tables, table_pairs, cut_slices, longest_queue);
     report_met();
-    unsigned missing = statuses_not_met() + kinds_not_met() + turns_not_met(TURNS_OF_CALLS);
+    unsigned missing = statuses_not_met() + kinds_not_met() + turns_not_met(TURNS_OF_CALLS) + queue_not_met();
     place.call = NULL, place.table = 0;
     if (missing)
         fail("%u cases were not met", missing);
+    if (longest_queue < LONG_QUEUE)
+        fail("expected %d timers or more to be queued at times, came at most %" PRIu32, LONG_QUEUE, longest_queue);
     return 0;
 }

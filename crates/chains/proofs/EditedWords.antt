@@ -1,32 +1,34 @@
 -- The words of a table after one slot went into a chain or out of it. `Edit` says what each word is: the eight words of the slot are a list, in
 -- which every store to that slot is a `set`; the neighbours' three words are named; all others are as before. Assumes nothing.
-use mathlib.Core.Path.{_≡_, refl, sym, ap, _∙_}
+use mathlib.Core.Path.{_≡_, refl, sym, ap, ap₂, _∙_}
 use mathlib.Core.Logic.{_≢_}
 use Prim.Native.Nat.{ℕ, zero, suc, _+_, _-_, _*_, _≤_, _<_}
 use native.Mathlib.Omega.{arith}
 use mathlib.Core.List.{List, [], _∷_}
 use lib.ListN.{length, getD, set, drop, length-set, length-drop}
-use lib.Seq.{getD-set-same, getD-set-other, ext-getD, getD-drop}
+use lib.Seq.{getD-set-same, getD-set-other, set-getD, ext-getD, getD-drop}
 use lib.Dec.{eqb}
 use borrow.Author.Tests.{eqb-true, eqb-false}
 use Rattle.model.specs.declared.Chain.{Chain}
-use Rattle.model.specs.declared.Chain.the-variants.{ByTicks, ByDate}
+use Rattle.model.specs.declared.Chain.the-variants.{ByTicks, ByDate, Queue}
 use Rattle.model.specs.State.{Slot}
 use Rattle.model.specs.Words.{word, field, headWord, slotFrom, kindOf, nameOf, intervalOf, waitOf, routineOf, dataOf, nextOf, previousOf}
 use Rattle.model.proofs.ListLaws.{cases}
 use Rattle.model.proofs.EachPlace.{end, _&_, each-at}
 use Rattle.model.proofs.StateWords.{linkWord}
-use Rattle.chains.specs.EditedWords.{fieldWord, followerPut, linksPut, relinked, waitWithout, waitBehind}
+use Rattle.chains.specs.EditedWords.{fieldWord, followerPut, previousPut, linksPut, relinked, waitWithout, waitBehind, extractedWords, FirstExtractable}
 
 -- ---- where words stand
 
 pub head-low : (k : Chain) → headWord k < 10
 head-low ByTicks = omega arith
 head-low ByDate = omega arith
+head-low Queue = omega arith
 
 field-off-link : (k : Chain) (p j f : ℕ) → 0 < j → f < 8 → (f ≡ 6 → j ≢ p) → fieldWord j f ≢ linkWord k p
 field-off-link ByTicks zero j f h l n = omega arith
 field-off-link ByDate zero j f h l n = omega arith
+field-off-link Queue zero j f h l n = omega arith
 field-off-link k (suc p) j f h l n = λ r. n (omega arith) (omega arith)
 
 link-off-link : (k : Chain) (j p : ℕ) → j ≢ p → linkWord k j ≢ linkWord k p
@@ -41,6 +43,7 @@ head-off-link k (suc p) m h n = omega arith
 link-inside : (k : Chain) (p n : ℕ) → 8 * p + 10 ≤ n → linkWord k p < n
 link-inside ByTicks zero n h = omega arith
 link-inside ByDate zero n h = omega arith
+link-inside Queue zero n h = omega arith
 link-inside k (suc p) n h = omega arith
 
 link-below : (k : Chain) (p m : ℕ) → p ≤ m → linkWord k p < 10 + 8 * m
@@ -79,6 +82,10 @@ module _ (t : List ℕ) (w : ℕ) where
   wait-without-date zero e = absurd (e refl)
   wait-without-date (suc n) e = refl
 
+  pub wait-without-queue : (n : ℕ) → n ≢ 0 → waitWithout Queue t n w ≡ waitOf t n
+  wait-without-queue zero e = absurd (e refl)
+  wait-without-queue (suc n) e = refl
+
   pub wait-behind-ticks : (n : ℕ) → n ≢ 0 → waitBehind ByTicks t n w ≡ waitOf t n - w
   wait-behind-ticks zero e = absurd (e refl)
   wait-behind-ticks (suc n) e = refl
@@ -86,6 +93,49 @@ module _ (t : List ℕ) (w : ℕ) where
   pub wait-behind-date : (n : ℕ) → n ≢ 0 → waitBehind ByDate t n w ≡ waitOf t n
   wait-behind-date zero e = absurd (e refl)
   wait-behind-date (suc n) e = refl
+
+  pub wait-behind-queue : (n : ℕ) → n ≢ 0 → waitBehind Queue t n w ≡ waitOf t n
+  wait-behind-queue zero e = absurd (e refl)
+  wait-behind-queue (suc n) e = refl
+
+-- ---- the first of a chain
+
+pub previous-put-none : (t : List ℕ) (n q : ℕ) → n ≡ 0 → previousPut t n q ≡ t
+unfolding previousPut
+previous-put-none t zero q e = refl
+previous-put-none t (suc n) q e = absurd (omega arith)
+
+pub previous-put-some : (t : List ℕ) (n q : ℕ) → n ≢ 0 → previousPut t n q ≡ set t (fieldWord n 7) q
+unfolding previousPut
+previous-put-some t zero q e = absurd (e refl)
+previous-put-some t (suc n) q e = refl
+
+-- a follower that keeps its wait
+follower-same : (t : List ℕ) (n q v : ℕ) → (0 < n → v ≡ waitOf t n) → previousPut t n q ≡ followerPut t n q v
+unfolding previousPut followerPut
+follower-same t zero q v e = refl
+follower-same t (suc n) q v e =
+    let u = set t (fieldWord (suc n) 7) q in
+    let is : v ≡ word u (fieldWord (suc n) 3) = e (omega arith) ∙ sym (getD-set-other t (fieldWord (suc n) 7) (fieldWord (suc n) 3) q 0 (omega arith)) in
+    sym (ap (set u (fieldWord (suc n) 3)) is ∙ set-getD u (fieldWord (suc n) 3) 0)
+
+-- its follower's wait stays when it leaves
+wait-stays : (k : Chain) (t : List ℕ) (n w : ℕ) → (k ≡ ByTicks → w ≡ 0) → 0 < n → waitWithout k t n w ≡ waitOf t n
+wait-stays ByTicks t n w due p = wait-without-ticks t w n (λ z. omega arith) ∙ omega (arith, due refl)
+wait-stays ByDate t n w due p = wait-without-date t w n (λ z. omega arith)
+wait-stays Queue t n w due p = wait-without-queue t w n (λ z. omega arith)
+
+pub first-extracted : (k : Chain) (t : List ℕ) (i : ℕ) → FirstExtractable k t i → {n : ℕ} {t₁ t₂ t₃ : List ℕ} → n ≡ nextOf t i
+    → t₁ ≡ set t (headWord k) n → t₂ ≡ previousPut t₁ n 0 → t₃ ≡ linksPut t₂ i 0 0 0 → t₃ ≡ extractedWords k t i
+unfolding relinked
+first-extracted k t i h {n} {t₁} {t₂} {t₃} is e f g =
+    let w = waitOf t i in
+    let head = set t (headWord k) n in
+    let v = waitWithout k t n w in
+    let kept : 0 < n → v ≡ waitOf head n =
+    λ p. wait-stays k t n w (h .due) p ∙ sym (getD-set-other t (headWord k) (fieldWord n 3) n 0 (field-off-link k 0 n 3 p (omega arith) (λ z. absurd (omega arith)))) in
+    g ∙ ap (λ (u : List ℕ). linksPut u i 0 0 0) (f ∙ ap (λ (u : List ℕ). previousPut u n 0) e ∙ follower-same head n 0 v kept)
+    ∙ ap₂ (λ (p m : ℕ). linksPut (followerPut (set t (linkWord k p) m) m p (waitWithout k t m w)) i 0 0 0) (sym (h .first)) is
 
 -- a relinking, by its steps
 pub relinked-by : (k : Chain) (t : List ℕ) (p l n q v i w x y : ℕ) {t₁ t₂ t₃ : List ℕ}

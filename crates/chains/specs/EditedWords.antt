@@ -5,7 +5,7 @@ use Prim.Native.Nat.{ℕ, zero, suc, _+_, _-_, _*_, _≤_, _<_}
 use mathlib.Core.List.{List}
 use lib.ListN.{length, set}
 use Rattle.model.specs.declared.Chain.{Chain}
-use Rattle.model.specs.declared.Chain.the-variants.{ByTicks, ByDate}
+use Rattle.model.specs.declared.Chain.the-variants.{ByTicks, ByDate, Queue}
 use Rattle.model.specs.Words.{word, waitOf, nextOf, previousOf}
 use Rattle.model.proofs.StateWords.{linkWord}
 
@@ -17,6 +17,11 @@ fieldWord i f = 2 + 8 * i + f
 unfoldable pub followerPut : List ℕ → ℕ → ℕ → ℕ → List ℕ
 followerPut t zero q v = t
 followerPut t (suc n) q v = set (set t (fieldWord (suc n) 7) q) (fieldWord (suc n) 3) v
+
+-- slot n, if there is one, gets previous q
+unfoldable pub previousPut : List ℕ → ℕ → ℕ → List ℕ
+previousPut t zero q = t
+previousPut t (suc n) q = set t (fieldWord (suc n) 7) q
 
 -- wait, next and previous of slot i
 unfoldable pub linksPut : List ℕ → ℕ → ℕ → ℕ → ℕ → List ℕ
@@ -31,11 +36,13 @@ abbrev pub waitWithout : Chain → List ℕ → ℕ → ℕ → ℕ
 waitWithout k t zero w = 0
 waitWithout ByTicks t (suc n) w = waitOf t (suc n) + w
 waitWithout ByDate t (suc n) w = waitOf t (suc n)
+waitWithout Queue t (suc n) w = waitOf t (suc n)
 
 abbrev pub waitBehind : Chain → List ℕ → ℕ → ℕ → ℕ
 waitBehind k t zero w = 0
 waitBehind ByTicks t (suc n) w = waitOf t (suc n) - w
 waitBehind ByDate t (suc n) w = waitOf t (suc n)
+waitBehind Queue t (suc n) w = waitOf t (suc n)
 
 -- slot i is extracted from its chain
 abbrev pub extractedWords : Chain → List ℕ → ℕ → List ℕ
@@ -52,6 +59,13 @@ pub record Extractable (k : Chain) (t : List ℕ) (i : ℕ) : Type 0 where
   pub behind : 8 * nextOf t i + 10 ≤ length t
   pub before : 8 * previousOf t i + 10 ≤ length t
   pub fits : waitWithout k t (nextOf t i) (waitOf t i) < 4294967296
+
+-- it is the first, and has no ticks left where it waits for ticks
+pub record FirstExtractable (k : Chain) (t : List ℕ) (i : ℕ) : Type 0 where
+  pub here : 8 * i + 10 ≤ length t
+  pub behind : 8 * nextOf t i + 10 ≤ length t
+  pub first : previousOf t i ≡ 0
+  pub due : k ≡ ByTicks → waitOf t i ≡ 0
 
 -- slot i can be inserted behind slot p with wait w
 pub record Insertable (k : Chain) (t : List ℕ) (p i w : ℕ) : Type 0 where

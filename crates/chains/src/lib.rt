@@ -1,14 +1,16 @@
-// One slot goes into a chain of a table or out of it, word by word. A chain is doubly linked: word 5 or 6 of the header holds its first slot, and
+// One slot goes into a chain of a table or out of it, word by word. A chain is doubly linked: word 5, 6 or 9 of the header holds its first slot, and
 // each slot the next and the previous one, 0 for none. In the interval chain a slot's wait is the ticks after the slot before it, so that its
-// follower's wait grows when it leaves and shrinks when it comes in front; in the dated chain a wait is the date itself.
+// follower's wait grows when it leaves and shrinks when it comes in front; in the dated chain a wait is the date
+// itself, and in the queue of the server it is 0.
 ghost use mathlib.Core.Path.{_≡_};
 ghost use Prim.Native.Nat.{_+_, _*_, _<_, _≤_};
 ghost use lib.ListN.{length, set};
-ghost use Rattle.model.specs.Words.{word, headWord, waitOf};
+ghost use Rattle.model.specs.Words.{word, headWord, waitOf, nextOf};
 ghost use Rattle.model.proofs.StateWords.{linkWord};
-ghost use Rattle.chains.specs.EditedWords.{followerPut, linksPut, waitWithout, waitBehind, extractedWords, insertedWords, Extractable, Insertable};
+ghost use Rattle.chains.specs.EditedWords.{followerPut, linksPut, waitWithout, waitBehind, previousPut, extractedWords, insertedWords, Extractable, FirstExtractable, Insertable};
 use model::Chain;
 use table::FIRST_DATED;
+use table::FIRST_QUEUED;
 use table::FIRST_TICKING;
 use table::NEXT;
 use table::PREVIOUS;
@@ -23,6 +25,7 @@ fn head_word(chain: Chain) -> usize
     match chain {
         Chain::ByTicks => FIRST_TICKING,
         Chain::ByDate => FIRST_DATED,
+        Chain::Queue => FIRST_QUEUED,
     }
 }
 
@@ -85,6 +88,7 @@ fn wait_without(t: &[u32], chain: Chain, n: u32, w: u32) -> u32
     match chain {
         Chain::ByTicks => v + w,
         Chain::ByDate => v,
+        Chain::Queue => v,
     }
 }
 
@@ -100,6 +104,7 @@ fn wait_behind(t: &[u32], chain: Chain, n: u32, w: u32) -> u32
     match chain {
         Chain::ByTicks => v - w,
         Chain::ByDate => v,
+        Chain::Queue => v,
     }
 }
 
@@ -115,6 +120,30 @@ pub fn extract(t: &mut [u32], chain: Chain, i: u32)
     put_next(t, chain, p, n);
     put_follower(t, n, p, v);
     put_links(t, i, 0, 0, 0);
+}
+
+// Slot n, if there is one, gets previous q.
+fn put_previous(t: &mut [u32], n: u32, q: u32)
+    requires { ⌜ 8 * n + 10 ≤ length (now t) ⌝ }
+    ensures { λ _. ⌜ now (t .exit) ≡ previousPut (now (t .entry)) n q ⌝ }
+{
+    if n == 0 {
+        return;
+    }
+    put(t, n, PREVIOUS, q)
+}
+
+// Slot i, the first of its chain, leaves it. In the interval chain it has no ticks left, so that its follower's wait stays. Gives the slot that
+// followed it, which is the first then.
+pub fn extract_first(t: &mut [u32], chain: Chain, i: u32) -> u32
+    requires { ⌜ FirstExtractable chain (now t) i ⌝ }
+    ensures { λ r. ⌜ (now (t .exit) ≡ extractedWords chain (now (t .entry)) i) × (r ≡ nextOf (now (t .entry)) i) ⌝ }
+{
+    let n = get(t, i, NEXT);
+    put_next(t, chain, 0, n);
+    put_previous(t, n, 0);
+    put_links(t, i, 0, 0, 0);
+    n
 }
 
 // Slot i comes behind slot p, with wait w.

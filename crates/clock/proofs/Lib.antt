@@ -1,3 +1,4 @@
--- Lists has whether the lent list is long enough; Clocks what each call leaves.
+-- Verdicts has what the check says; Lists whether the lent list is long enough; Clocks what each call leaves.
+pub mod Verdicts
 pub mod Lists
 pub mod Clocks

@@ -12,58 +12,64 @@ use answers::Reading;
 use calendar::Date;
 use calendar::Instant;
 use calendar::WallTime;
-use firing::ENTRY;
 use firing::come_nearer;
 use firing::fire;
 use firing::step_clock;
+use going_on::ENTRY;
 use model::Chain;
 use model::Status;
+use soundness::Verdict;
+use soundness::checked;
 use soundness::is_sound;
 use table::*;
 
-// The lent list has room for every slot; refused where the table is not sound or the list is too short.
+// The lent list has room for every slot; refused where the table is not sound or the list is too short. The answer's number is the last slot of the
+// server's queue, 0 where that is empty.
 fn open_list(table: &[u32], fired: &[u32]) -> Answer
-    ensures { λ r. ⌜ Opens (onList (now (table .entry)) (now (fired .entry))) (λ _. Lent (now (table .entry)) (now (fired .entry))) r ⌝ }
+    ensures { λ r. ⌜ Opens (onList (now (table .entry)) (now (fired .entry))) (Lent (now (table .entry)) (now (fired .entry))) r ⌝ }
 {
-    if !is_sound(table) {
+    let Verdict::Sound(end) = checked(table) else {
         return Answer::Refused(Status::NotSound);
-    }
+    };
     if fired.len() < ENTRY * (table[SLOT_COUNT] as usize) {
         return Answer::Refused(Status::ListTooShort);
     }
-    Answer::Done(0)
+    Answer::Done(end)
 }
 
-// One tick: interval timers come nearer and those due fire; then the clock goes on and dated timers that are due fire. Answers how many.
+// One tick: interval timers come nearer and those due fire; then the clock goes on and dated timers that are due fire. Answers how many. Server timers
+// that are due are queued instead.
 pub fn tick(table: &mut [u32], fired: &mut [u32]) -> Answer
     ensures { λ r. ⌜ outcomeOf (statusOf r) (answerOf r) (now (table .exit)) (now (fired .exit)) ≡ outcome (now (table .entry)) (call.tick (now (fired .entry))) ⌝ }
 {
     let opened = open_list(table, fired);
-    let Answer::Done(_) = opened else {
+    let Answer::Done(end) = opened else {
         return opened;
     };
     come_nearer(table);
-    let ticked = fire(table, fired, Chain::ByTicks, 0, 0);
+    let ticking = fire(table, fired, Chain::ByTicks, 0, 0, end);
     step_clock(table);
     let second = table[SECONDS];
-    let count = fire(table, fired, Chain::ByDate, second, ticked);
-    Answer::Done(count)
+    let listed = ticking.count;
+    let last = ticking.end;
+    let dated = fire(table, fired, Chain::ByDate, second, listed, last);
+    Answer::Done(dated.count)
 }
 
-// The clock is set, and dated timers that are then due fire. Interval timers do not change. Answers how many fired.
+// The clock is set, and dated timers that are then due fire, server timers into the queue. Interval timers do not change. Answers how many fired.
 pub fn set_clock(table: &mut [u32], time: WallTime, fired: &mut [u32]) -> Answer
     ensures { λ r. ⌜ outcomeOf (statusOf r) (answerOf r) (now (table .exit)) (now (fired .exit)) ≡ outcome (now (table .entry)) (call.setClock time (now (fired .entry))) ⌝ }
 {
     let opened = open_list(table, fired);
-    let Answer::Done(_) = opened else {
+    let Answer::Done(end) = opened else {
         return opened;
     };
     let Instant::Second(second) = calendar::to_seconds(time) else {
         return Answer::Refused(Status::InvalidClock);
     };
     firing::set_clock(table, second);
-    let count = fire(table, fired, Chain::ByDate, second, 0);
-    Answer::Done(count)
+    let dated = fire(table, fired, Chain::ByDate, second, 0, end);
+    Answer::Done(dated.count)
 }
 
 // The date that the clock stands at, with the ticks into its second.

@@ -9,13 +9,14 @@ use calendar::WallTime;
 use clock::*;
 use libc::STDIN_FILENO;
 use libc::STDOUT_FILENO;
+use server::*;
 use starts::*;
 use table::SLOT_COUNT;
 use table::TICKS_PER_SECOND;
 use timer::*;
 
 // The calls, numbered as in `model`; their arguments come in its order. A wall time is two words: 20000229 235959 is the last second of
-// 2000-02-29.
+// 2000-02-29. Serve has the word from which on it is lent the list: 6 lends it three words of the nine, 7 two, 9 none.
 const LAY_OUT: u32 = 1;
 
 const CREATE: u32 = 2;
@@ -42,7 +43,15 @@ const GET_CLOCK: u32 = 12;
 
 const FIRE_EVERY: u32 = 13;
 
-// Steps that are no calls: none; so many words of the fired list are printed; a word of the table becomes a number.
+const INITIATE_SERVER: u32 = 15;
+
+const SERVER_FIRE_AFTER: u32 = 16;
+
+const SERVER_FIRE_WHEN: u32 = 17;
+
+const SERVE: u32 = 18;
+
+// Steps that are no calls: none; so many words of the list are printed; a word of the table becomes a number.
 const NONE: u32 = 0;
 
 const PRINT_LIST: u32 = 50;
@@ -58,12 +67,15 @@ const SHORT_TICK: u32 = 110;
 
 const SHORT_SET_CLOCK: u32 = 111;
 
-// The words of a table and of a fired list for three slots.
+// The words of a table and of a list for three slots.
 const TABLE: usize = 34;
 
 const LIST: usize = 9;
 
 const MOST: u32 = 4294967295;
+
+// The bytes that there is room for in `stdin`.
+const TEXT: usize = 131072;
 
 // The words of a step; those that a line leaves out are zero.
 struct Step {
@@ -127,7 +139,7 @@ fn show_reading(reading: Reading) {
     }
 }
 
-// Prints so many words of a fired list.
+// Prints so many words of the list.
 fn print_list(list: &[u32; LIST], count: u32) {
     let mut i = 0;
     while i < LIST {
@@ -151,6 +163,15 @@ fn short_call(number: u32, a: u32, b: u32, table: &mut [u32; TABLE]) -> Answer {
         SHORT_SET_CLOCK => set_clock(table, wall_time(a, b, MOST), &mut list),
         _ => Answer::Done(MOST),
     }
+}
+
+// Serves, with the list lent from a word on. A word past its end is no step's.
+fn serve_from(table: &mut [u32; TABLE], list: &mut [u32], word: u32) -> Answer {
+    let from = word as usize;
+    if from > list.len() {
+        return Answer::Done(MOST);
+    }
+    serve(table, &mut list[from..])
 }
 
 // Makes a call. The ticks of a wall time are not zero, and do not count.
@@ -177,6 +198,10 @@ fn call(
         TICKS_LEFT => ticks_left(table, a),
         TICK => tick(table, list),
         SET_CLOCK => set_clock(table, wall_time(a, b, MOST), list),
+        INITIATE_SERVER => initiate_server(table),
+        SERVER_FIRE_AFTER => server_fire_after(table, a, b, c, d),
+        SERVER_FIRE_WHEN => server_fire_when(table, a, wall_time(b, c, MOST), d, e),
+        SERVE => serve_from(table, list, a),
         CHANGE_WORD => {
             table[a as usize % TABLE] = b;
             Answer::Done(b)
@@ -263,7 +288,7 @@ fn run(text: &[u8]) {
 }
 
 fn main() {
-    let mut text = io::large_buffer();
+    let mut text = [0u8; TEXT];
     let n = io::read_full(STDIN_FILENO, &mut text);
     run(&text[..n]);
 }

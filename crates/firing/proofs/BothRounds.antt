@@ -1,27 +1,29 @@
 -- Both rounds of a firing on a table: after the first the entries name the slots of those that came off, so that the second leaves the state that
 -- the model's firing leaves. Assumes nothing.
-use mathlib.Core.Path.{_≡_, sym, ap, ap₂, _∙_, subst}
+use mathlib.Core.Path.{_≡_, refl, sym, ap, ap₂, _∙_, subst}
 use Prim.Native.Nat.{ℕ, zero, suc, _+_, _-_, _*_, _≤_, _<_}
 use native.Mathlib.Omega.{arith}
-use mathlib.Core.Bool.{Bool, false}
-use mathlib.Core.List.{List}
+use mathlib.Core.Bool.{Bool, false, not}
+use mathlib.Core.List.{List, [], _∷_}
 use lib.ListN.{length}
 use lib.Seq.{length-sets}
 use lib.Dec.{leb, eqb}
 use borrow.Author.Tests.{eqb-true, eqb-false}
 use Rattle.model.specs.declared.Chain.{Chain}
 use Rattle.model.specs.Lists.{All}
-use Rattle.model.specs.State.{Link, State, chainOf, idBase}
+use Rattle.model.specs.Kinds.{kindAt, forServer}
+use Rattle.model.specs.State.{Link, State, chainOf, slotAt, idBase}
 use Rattle.model.specs.Directives.{due, fire}
 use Rattle.model.specs.Words.{word, read, writtenOver, slotCount}
-use Rattle.model.proofs.ListLaws.{cases, all-keep, all-mapped}
+use Rattle.model.proofs.ListLaws.{cases, all-keep, all-mapped, length-keep}
 use Rattle.model.proofs.Chains.{InSlots, in-slots}
 use Rattle.model.proofs.ReadBack.{slots-length, over-over}
 use Rattle.model.proofs.Steps.{length-fire, chained-fire}
 use Rattle.links.proofs.NextState.{Next, next-start, next-read, next-holds, next-then}
-use Rattle.firing.specs.Lists.{Room, stoppedAll, TakesOff, Fires}
-use Rattle.firing.specs.GoingBack.{backAll, slotsIn, Entries}
-use Rattle.firing.proofs.TwoRounds.{slotsOf, length-stoppedAll, chained-between, two-rounds, one-round}
+use Rattle.firing.specs.Lists.{EndsAt, Room, Tally, offAll, dueListed, TakesOff, Fires}
+use Rattle.going_on.specs.GoingBack.{wentBack, backAll, slotsIn, Entries}
+use Rattle.links.specs.Places.{lastSlot}
+use Rattle.firing.proofs.TwoRounds.{slotsOf, length-offAll, chained-between, two-rounds, one-round}
 use Rattle.firing.proofs.Entries.{slots-written}
 
 -- what holds of all slots that entries name
@@ -33,47 +35,65 @@ named-at P list from (suc m) h j p q =
     (λ e. let other = eqb-false from j e in named-at P list (suc from) m (h .1) j (omega arith) (omega arith))
 
 -- a firing, as one of the steps that follow one another
-pub next-fires : {t : List ℕ} {s : State} {u : List ℕ} → Next t s u → {k : Chain} {limit : ℕ} {l l′ : List ℕ} {n m : ℕ} {v : List ℕ}
-    → Fires k u l limit n m v l′ → Next t (fire k limit s) v
+pub next-fires : {t : List ℕ} {s : State} {u : List ℕ} → Next t s u → {k : Chain} {limit : ℕ} {l l′ : List ℕ} {n m end : ℕ} {v : List ℕ}
+    → Fires k u l limit n m end v l′ → Next t (fire k limit s) v
 next-fires {s = s} x {k} {limit} f =
     next-then x (fire k limit) (chained-fire k limit s (x .holds .chained)) (length-fire k limit s) (f .table)
 
-module _ {k : Chain} {t l : List ℕ} {limit from : ℕ} (r : Room k t l limit from) where
+-- going back leaves the queue
+back-queue : (is : List ℕ) (s : State) → backAll is s .queue ≡ s .queue
+back-queue [] s = refl
+back-queue (i ∷ is) s =
+    back-queue is (wentBack s i) ∙ cases (eqb (slotAt (s .slots) i .kind) 7) (λ e. rw e) (λ e. rw e)
+
+pub fires-list-length : {k : Chain} {t l : List ℕ} {limit from n end : ℕ} {t′ l′ : List ℕ} → Fires k t l limit from n end t′ l′ → length l′ ≡ length l
+fires-list-length f = ap length (f .entries) ∙ simp length-sets
+
+module _ {k : Chain} {t l : List ℕ} {limit from end : ℕ} (r : Room k t l limit from end) where
   abbrev ws : List Link
   ws = due k limit (read t)
 
-  pub fires-list-length : {n : ℕ} {t′ l′ : List ℕ} → Fires k t l limit from n t′ l′ → length l′ ≡ length l
-  fires-list-length f = ap length (f .entries) ∙ simp length-sets
+  -- those that are listed
+  abbrev ls : List Link
+  ls = dueListed k limit (read t)
+
+  fewer : length ls ≤ length ws
+  fewer = length-keep (λ w. not (forServer (kindAt (slotAt (read t .slots) (w .slot) .kind) .last))) ws
 
   -- after the first round
-  module _ {n : ℕ} {some : Bool} {t₁ l₁ : List ℕ} (f : TakesOff k t l limit from false n some t₁ l₁) where
-    off-next : Next t (stoppedAll (due k limit (read t)) (read t)) t₁
-    off-next =
-        next-then (next-start (r .holds)) (λ s. stoppedAll (due k limit s) s)
-        (chained-between k limit (read t) (r .holds .chained)) (length-stoppedAll ws (read t)) (f .table)
+  module _ {c : Tally} {t₁ l₁ : List ℕ} (f : TakesOff k t l limit from false c t₁ l₁) where
+    abbrev n : ℕ
+    n = c .count
 
-    slots-are : slotsIn l₁ from (n - from) ≡ slotsOf ws
+    off-next : Next t (offAll (due k limit (read t)) (read t)) t₁
+    off-next =
+        next-then (next-start (r .holds)) (λ s. offAll (due k limit s) s)
+        (chained-between k (r .waits) limit (read t) (r .holds .chained)) (length-offAll ws (read t)) (f .table)
+
+    slots-are : slotsIn l₁ from (n - from) ≡ slotsOf ls
     slots-are =
-        let number : n - from ≡ length ws = omega (arith, f .count) in
-        ap₂ (λ (x : List ℕ) (m : ℕ). slotsIn x from m) (f .entries) number ∙ slots-written (read t .slots) ws l from (r .fits)
+        let number : n - from ≡ length ls = omega (arith, f .count) in
+        ap₂ (λ (x : List ℕ) (m : ℕ). slotsIn x from m) (f .entries) number
+        ∙ slots-written (read t .slots) ls l from (omega (arith, r .fits, fewer))
 
     in-range : All (λ i. (0 < i) × (i ≤ slotCount t)) (slotsIn l₁ from (n - from))
     in-range =
         subst (All (λ i. (0 < i) × (i ≤ slotCount t))) (sym slots-are)
-        (all-mapped (λ (w : Link). w .slot) (λ i. (0 < i) × (i ≤ slotCount t)) ws
-        (subst (λ (m : ℕ). All (InSlots m) ws) (slots-length t)
-        (all-keep (InSlots (length (read t .slots))) (λ w. leb (w .wait) limit) (chainOf k (read t)) (in-slots (read t) (r .holds .chained) k))))
+        (all-mapped (λ (w : Link). w .slot) (λ i. (0 < i) × (i ≤ slotCount t)) ls
+        (subst (λ (m : ℕ). All (InSlots m) ls) (slots-length t)
+        (all-keep (InSlots (length (read t .slots))) (λ w. not (forServer (kindAt (slotAt (read t .slots) (w .slot) .kind) .last))) ws
+        (all-keep (InSlots (length (read t .slots))) (λ w. leb (w .wait) limit) (chainOf k (read t)) (in-slots (read t) (r .holds .chained) k)))))
 
-    pub off-entries : Entries t₁ l₁ from n
+    pub off-entries : Entries t₁ l₁ from (c .count)
     off-entries =
         let same : length l₁ ≡ length l = ap length (f .entries) ∙ simp length-sets in
         let size : slotCount t₁ ≡ slotCount t =
-        sym (slots-length t₁) ∙ ap (λ (s : State). length (s .slots)) (next-read off-next) ∙ length-stoppedAll ws (read t) ∙ slots-length t in
+        sym (slots-length t₁) ∙ ap (λ (s : State). length (s .slots)) (next-read off-next) ∙ length-offAll ws (read t) ∙ slots-length t in
         record {
           holds = next-holds off-next;
           order = omega (arith, f .count);
-          few = omega (arith, f .count, r .few);
-          fits = omega (arith, f .count, r .fits, same);
+          few = omega (arith, f .count, r .few, fewer);
+          fits = omega (arith, f .count, r .fits, same, fewer);
           named = λ j p q.
               let at = named-at (λ i. (0 < i) × (i ≤ slotCount t)) l₁ from (n - from) in-range j p (omega arith) in
               (omega (arith, at .0), omega (arith, at .1, size));
@@ -82,23 +102,30 @@ module _ {k : Chain} {t l : List ℕ} {limit from : ℕ} (r : Room k t l limit f
     -- the table after a round that leaves the state s
     leaves : (s : State) → s ≡ fire k limit (read t) → {v : List ℕ} → v ≡ writtenOver s t₁ → v ≡ writtenOver (fire k limit (read t)) t
     leaves s is e =
-        let between = stoppedAll (due k limit (read t)) (read t) in
+        let between = offAll (due k limit (read t)) (read t) in
         e ∙ ap₂ (λ (z : State) (w : List ℕ). writtenOver z w) is (off-next .is)
-        ∙ over-over between (fire k limit (read t)) t (length-fire k limit (read t) ∙ sym (length-stoppedAll ws (read t)))
+        ∙ over-over between (fire k limit (read t)) t (length-fire k limit (read t) ∙ sym (length-offAll ws (read t)))
 
     -- the second round was made; it was not, since none is periodic
-    pub fires-both : {t₂ : List ℕ} → t₂ ≡ writtenOver (backAll (slotsIn l₁ from (n - from)) (read t₁)) t₁ → Fires k t l limit from n t₂ l₁
-    fires-both e = record {
-      count = f .count;
-      table = leaves (backAll (slotsIn l₁ from (n - from)) (read t₁))
-          (ap₂ (λ (is : List ℕ) (s : State). backAll is s) slots-are (next-read off-next) ∙ two-rounds k limit (read t) (r .holds .chained)) e;
-      entries = f .entries;
-    }
+    pub fires-both : {t₂ : List ℕ} → t₂ ≡ writtenOver (backAll (slotsIn l₁ from (c .count - from)) (read t₁)) t₁
+        → Fires k t l limit from (c .count) (c .end) t₂ l₁
+    fires-both {t₂} e =
+        let is = ap₂ (λ (is : List ℕ) (s : State). backAll is s) slots-are (next-read off-next) ∙ two-rounds k (r .waits) limit (read t) (r .holds .chained) in
+        let table = leaves (backAll (slotsIn l₁ from (n - from)) (read t₁)) is e in
+        let now : read t₂ ≡ fire k limit (read t) =
+        next-read (next-then (next-start (r .holds)) (fire k limit) (chained-fire k limit (read t) (r .holds .chained)) (length-fire k limit (read t)) table) in
+        record {
+          count = f .count;
+          last = f .last ∙ ap (lastSlot 0) (sym (ap (λ (s : State). s .queue) (now ∙ sym is) ∙ back-queue (slotsIn l₁ from (n - from)) (read t₁)));
+          table = table;
+          entries = f .entries;
+        }
 
-    pub fires-off : some ≡ false → Fires k t l limit from n t₁ l₁
+    pub fires-off : c .periodic ≡ false → Fires k t l limit from (c .count) (c .end) t₁ l₁
     fires-off none = record {
       count = f .count;
-      table = leaves (read t₁) (next-read off-next ∙ one-round k limit (read t) (r .holds .chained) (sym (f .periodic) ∙ none))
+      last = f .last;
+      table = leaves (read t₁) (next-read off-next ∙ one-round k (r .waits) limit (read t) (r .holds .chained) (sym (f .periodic) ∙ none))
           (sym (next-holds off-next .is));
       entries = f .entries;
     }

@@ -22,12 +22,12 @@ use Rattle.links.proofs.Storing.{same-slots}
 -- the words of s with words 2 to 4 as given
 abbrev clockStored : State → ℕ → ℕ → ℕ → List ℕ → List ℕ
 clockStored s isSet second into rest =
-    length (s .slots) ∷ s .clock .perSecond ∷ isSet ∷ second ∷ into ∷ first (s .ticking) ∷ first (s .dated) ∷ 0 ∷ 0 ∷ 0 ∷ rest
+    length (s .slots) ∷ s .clock .perSecond ∷ isSet ∷ second ∷ into ∷ first (s .ticking) ∷ first (s .dated) ∷ 0 ∷ cond (s .server) 1 0 ∷ first (s .queue) ∷ rest
 
 module _ (t : List ℕ) (s : State) (is : writtenOver s t ≡ t) (second into : ℕ) where
   same : allSlots s 1 (s .slots) (drop (10 + 8 * length (s .slots)) t)
       ≡ allSlots (withClock s (clockAt (s .clock) second into)) 1 (s .slots) (drop (10 + 8 * length (s .slots)) t)
-  same = sym (same-slots s (s .slots) (clockAt (s .clock) second into) 1 (s .slots) (drop (10 + 8 * length (s .slots)) t))
+  same = sym (same-slots s (s .slots) (clockAt (s .clock) second into) (s .server) 1 (s .slots) (drop (10 + 8 * length (s .slots)) t))
 
   -- the clock is set to a second
   clock-placed : set (set (set t 2 1) 3 second) 4 into ≡ writtenOver (withClock s (clockAt (s .clock) second into)) t

@@ -11,7 +11,7 @@ use Rattle.model.specs.Words.{word}
 use Rattle.model.specs.Outcome.{entryWords, written}
 use Rattle.model.proofs.Slots.{Memo, memo}
 use Rattle.model.proofs.ListWords.{length-entries}
-use Rattle.firing.specs.GoingBack.{slotsIn}
+use Rattle.going_on.specs.GoingBack.{slotsIn}
 use Rattle.firing.proofs.TwoRounds.{slotsOf}
 
 -- ---- stores

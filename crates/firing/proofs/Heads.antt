@@ -8,11 +8,15 @@ use mathlib.Core.List.{List, [], _∷_}
 use lib.ListN.{length}
 use Rattle.model.specs.declared.Chain.{Chain}
 use Rattle.model.specs.State.{Link, chainOf}
-use Rattle.model.specs.Words.{first, word, headWord, read, waitOf}
+use Rattle.model.specs.Words.{first, word, headWord, read, waitOf, nextOf, previousOf}
 use Rattle.model.proofs.WellFormed.{Holds}
 use Rattle.model.proofs.StateWords.{holds-parts}
 use Rattle.links.proofs.LinkInMiddle.{mid-stands, mid-own}
 use Rattle.links.proofs.WalkToPlace.{differ-zero}
+
+-- the header word of a chain is its first slot
+pub head-of : (k : Chain) {t : List ℕ} → Holds t (read t) → word t (headWord k) ≡ first (chainOf k (read t))
+head-of k {t} h = holds-parts t (read t) h .lay k .links 0 (λ p. absurd (omega arith))
 
 -- slot i is that of the first link of chain k
 pub record Front (k : Chain) (t : List ℕ) (i : ℕ) : Type 0 where
@@ -21,12 +25,14 @@ pub record Front (k : Chain) (t : List ℕ) (i : ℕ) : Type 0 where
   pub whole : chainOf k (read t) ≡ entry ∷ back
   pub slot : i ≡ entry .slot
   pub wait : waitOf t i ≡ entry .wait
+  pub previous : previousOf t i ≡ 0
+  pub next : nextOf t i ≡ first back
   pub low : 1 ≤ i
   pub high : i ≤ length (read t .slots)
 
 module _ (k : Chain) {t : List ℕ} {i : ℕ} (h : Holds t (read t)) (here : i ≡ word t (headWord k)) where
   head-is : i ≡ first (chainOf k (read t))
-  head-is = here ∙ holds-parts t (read t) h .lay k .links 0 (λ p. absurd (omega arith))
+  head-is = here ∙ head-of k h
 
   pub no-front : i ≡ 0 → chainOf k (read t) ≡ []
   no-front e = go (chainOf k (read t)) refl
@@ -49,6 +55,8 @@ module _ (k : Chain) {t : List ℕ} {i : ℕ} (h : Holds t (read t)) (here : i �
             whole = q;
             slot = e;
             wait = ap (waitOf t) e ∙ mid-stands k t (read t) h [] y ys q .wait ∙ differ-zero k (y .wait);
+            next = ap (nextOf t) e ∙ mid-stands k t (read t) h [] y ys q .next;
+            previous = ap (previousOf t) e ∙ mid-stands k t (read t) h [] y ys q .previous;
             low = omega arith;
             high = omega arith;
           }

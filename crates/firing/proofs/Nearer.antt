@@ -10,9 +10,9 @@ use lib.ListN.{length, getD, set, length-set}
 use lib.Seq.{getD-set-same, getD-set-other, drop-set-lt}
 use lib.Dec.{eqb}
 use borrow.Author.Tests.{eqb-true, eqb-false}
-use Rattle.model.specs.declared.Chain.the-variants.{ByTicks, ByDate}
+use Rattle.model.specs.declared.Chain.the-variants.{ByTicks, ByDate, Queue}
 use Rattle.model.specs.Lists.{All}
-use Rattle.model.specs.State.{Link, State, slotAt}
+use Rattle.model.specs.State.{Link, State, slotAt, withChain}
 use Rattle.model.specs.Directives.{closer, nearer}
 use Rattle.model.specs.Words.{first, nextIn, previousIn, waitIn, slotWords, write, writtenOver, word, field, read, firstTicking, waitOf}
 use Rattle.model.specs.Sound.{sound}
@@ -79,7 +79,7 @@ module _ (t : List ℕ) (s : State) (h : Holds t s) (w : Link) (ws : List Link) 
       same-heads = rw (first-closer (s .ticking))
 
       waits : (i : ℕ) → 0 < i → i ≤ length (s .slots)
-          → waitOf u i ≡ waitIn ByTicks 0 (map closer (s .ticking)) i + waitIn ByDate 0 (s .dated) i
+          → waitOf u i ≡ waitIn ByTicks 0 (map closer (s .ticking)) i + waitIn ByDate 0 (s .dated) i + waitIn Queue 0 (s .queue) i
       waits i a b =
           cases (eqb (w .slot) i)
           (λ e.
@@ -104,8 +104,8 @@ module _ (t : List ℕ) (s : State) (h : Holds t s) (w : Link) (ws : List Link) 
           & waits i a b
           & stays 4 (omega arith) (omega arith)
           & stays 5 (omega arith) (omega arith)
-          & (stays 6 (omega arith) (omega arith) ∙ ap (λ (n : ℕ). n + nextIn (s .dated) i) (sym (next-closer (s .ticking) i)))
-          & (stays 7 (omega arith) (omega arith) ∙ ap (λ (n : ℕ). n + previousIn 0 (s .dated) i) (sym (previous-closer 0 (s .ticking) i)))
+          & (stays 6 (omega arith) (omega arith) ∙ ap (λ (n : ℕ). n + nextIn (s .dated) i + nextIn (s .queue) i) (sym (next-closer (s .ticking) i)))
+          & (stays 7 (omega arith) (omega arith) ∙ ap (λ (n : ℕ). n + previousIn 0 (s .dated) i + previousIn 0 (s .queue) i) (sym (previous-closer 0 (s .ticking) i)))
           & end)
 
   lowered : u ≡ writtenOver (nearer s) t
@@ -121,7 +121,7 @@ module _ (t : List ℕ) (s : State) (h : Holds t s) (w : Link) (ws : List Link) 
 module _ (t : List ℕ) (ok : sound t ≡ true) where
   pub nearer-none : firstTicking t ≡ 0 → t ≡ writtenOver (nearer (read t)) t
   nearer-none e =
-      sym (ap (λ (c : List Link). writtenOver (record { slots = read t .slots; clock = read t .clock; ticking = c; dated = read t .dated }) t)
+      sym (ap (λ (c : List Link). writtenOver (withChain ByTicks (read t) (read t .slots) c) t)
       (ap (map closer) none ∙ sym none) ∙ sound-holds t ok .is)
     where
       none : read t .ticking ≡ []

@@ -1,41 +1,39 @@
-// Timers fire, and the clock goes on: the steps of a tick and of a set clock. All timers of a chain that are due come off first and are
-// listed; then the periodic ones, which the list names in the order in which they fired, go back into the interval chain.
+// Timers fire, and the clock goes on: the steps of a tick and of a set clock. All timers of a chain that are due come off first: a server timer
+// goes to the back of the queue, any other is listed. Then the periodic ones, which the list names in the order in which they fired, go back into
+// the interval chain.
 ghost use mathlib.Core.Path.{_≡_};
 ghost use mathlib.Core.Bool.{true, false};
 ghost use mathlib.Core.List.{[], _∷_};
-ghost use Prim.Native.Nat.{_+_, _-_, _*_, _<_, _≤_};
+ghost use Prim.Native.Nat.{_+_, _*_, _<_, _≤_};
 ghost use lib.ListN.{length};
 ghost use lib.Seq.{sets};
-ghost use Rattle.model.specs.State.{withClock, idBase};
+ghost use Rattle.model.specs.State.{withClock};
 ghost use Rattle.model.specs.Directives.{nearer, clockAt, clockStep};
-ghost use Rattle.model.specs.Words.{word, read, writtenOver, ticksInto};
+ghost use Rattle.model.specs.Words.{read, writtenOver, ticksInto};
 ghost use Rattle.model.specs.Sound.{sound};
 ghost use Rattle.model.proofs.WellFormed.{Holds};
-ghost use Rattle.firing.specs.Lists.{Room, ComesOff, CameOff, TakesOff, Fires};
-ghost use Rattle.firing.specs.GoingBack.{backAll, slotsIn, Entries, Sought, GoesBack, WentBack};
+ghost use Rattle.firing.specs.Lists.{Room, ComesOff, CameOff, Turns, tallyOf, Turned, TakesOff, Fires};
 use chains::follower;
-use links::stop_in;
+use going_on::ENTRY;
+use going_on::put_back;
+use going_on::queue;
+use links::stop_first;
 use links::stopped_kind;
-use links::wait_again;
 use model::Chain;
 use slots::ID_BASE;
 use table::CLOCK_SET;
 use table::DATA;
 use table::FIRST_TICKING;
-use table::IDLE_EVERY;
-use table::INTERVAL;
 use table::KIND;
 use table::ROUTINE;
 use table::SECONDS;
+use table::SERVER_WAITING_TICKS;
 use table::TICKS;
 use table::TICKS_PER_SECOND;
 use table::WAIT;
 use table::WAITING_EVERY;
 use table::get;
 use table::put;
-
-// Words of the fired list for each timer: id, routine, user data.
-pub const ENTRY: usize = 3;
 
 // Entry n of the fired list.
 fn put_entry(list: &mut [u32], n: u32, id: u32, routine: u32, user_data: u32)
@@ -48,124 +46,107 @@ fn put_entry(list: &mut [u32], n: u32, id: u32, routine: u32, user_data: u32)
     list[at + 2] = user_data;
 }
 
-// Slot i, of that kind, comes off the chain and is listed as entry n.
-fn come_off(t: &mut [u32], list: &mut [u32], chain: Chain, i: u32, kind: u32, n: u32)
+// Slot i, of that kind, the first of the chain and due, comes off and is listed as entry n. Gives the slot that followed it.
+pub fn come_off(t: &mut [u32], list: &mut [u32], chain: Chain, i: u32, kind: u32, n: u32) -> u32
     requires { ⌜ ComesOff chain (now t) (now list) i kind n ⌝ }
-    ensures { λ _. ⌜ CameOff (now (t .entry)) (now (list .entry)) i n (now (t .exit)) (now (list .exit)) ⌝ }
+    ensures { λ r. ⌜ CameOff (now (t .entry)) (now (list .entry)) i n r (now (t .exit)) (now (list .exit)) ⌝ }
 {
     let routine = get(t, i, ROUTINE);
     let user_data = get(t, i, DATA);
     put_entry(list, n, ID_BASE + i, routine, user_data);
-    stop_in(t, chain, i, stopped_kind(kind));
+    stop_first(t, chain, i, stopped_kind(kind))
 }
 
-// How many entries there are, and whether the timer of one is periodic.
-struct Off {
+// How many entries there are, whether the timer of one is periodic, the last slot of the queue and the first of the chain, 0 where they are empty.
+struct Counts {
     count: u32,
     periodic: bool,
+    end: u32,
+    front: u32,
 }
 
-// The timers at the front of a chain whose wait is not above the limit come off it and are listed, as entries from `from` on.
-fn take_off(t: &mut [u32], list: &mut [u32], chain: Chain, limit: u32, from: u32) -> Off
-    requires { ⌜ Room chain (now t) (now list) limit from ⌝ }
-    ensures { λ r. ⌜ TakesOff chain (now (t .entry)) (now (list .entry)) limit from false (r .count) (r .periodic) (now (t .exit)) (now (list .exit)) ⌝ }
+// The front of the chain, which is due, comes off: a server timer goes to the back of the queue, any other is listed.
+fn turn(t: &mut [u32], list: &mut [u32], chain: Chain, counts: Counts) -> Counts
+    requires { ⌜ Turns chain (now t) (now list) (counts .front) (counts .count) (counts .end) ⌝ }
+    ensures { λ r. ⌜ Turned (now (t .entry)) (now (list .entry)) (tallyOf (counts .count) (counts .periodic) (counts .end) (counts .front)) (tallyOf (r .count) (r .periodic) (r .end) (r .front)) (now (t .exit)) (now (list .exit)) ⌝ }
 {
-    let mut n = from;
-    let mut periodic = false;
-    let mut i = follower(t, chain, 0);
+    let i = counts.front;
+    let kind = get(t, i, KIND);
+    if SERVER_WAITING_TICKS <= kind {
+        let next = queue(t, chain, i, kind, counts.end);
+        return Counts {
+            count: counts.count,
+            periodic: counts.periodic,
+            end: i,
+            front: next,
+        };
+    }
+    let next = come_off(t, list, chain, i, kind, counts.count);
+    let mut periodic = counts.periodic;
+    if kind == WAITING_EVERY {
+        periodic = true;
+    }
+    Counts {
+        count: counts.count + 1,
+        periodic: periodic,
+        end: counts.end,
+        front: next,
+    }
+}
+
+// The timers at the front of a chain whose wait is not above the limit come off it; those listed are the entries from `from` on.
+fn take_off(
+    t: &mut [u32],
+    list: &mut [u32],
+    chain: Chain,
+    limit: u32,
+    from: u32,
+    end: u32,
+) -> Counts
+    requires { ⌜ Room chain (now t) (now list) limit from end ⌝ }
+    ensures { λ r. ⌜ TakesOff chain (now (t .entry)) (now (list .entry)) limit from false (tallyOf (r .count) (r .periodic) (r .end) (r .front)) (now (t .exit)) (now (list .exit)) ⌝ }
+{
+    let first = follower(t, chain, 0);
+    let mut counts = Counts {
+        count: from,
+        periodic: false,
+        end: end,
+        front: first,
+    };
     loop {
-        if i == 0 {
-            break Off {
-                count: n,
-                periodic: periodic,
-            };
+        if counts.front == 0 {
+            break counts;
         }
-        let w = get(t, i, WAIT);
+        let w = get(t, counts.front, WAIT);
         if limit < w {
-            break Off {
-                count: n,
-                periodic: periodic,
-            };
+            break counts;
         }
-        let kind = get(t, i, KIND);
-        if kind == WAITING_EVERY {
-            periodic = true;
-        }
-        come_off(t, list, chain, i, kind, n);
-        n += 1;
-        i = follower(t, chain, 0);
+        counts = turn(t, list, chain, counts);
     }
 }
 
-// The slot of entry j.
-fn slot_listed(list: &[u32], j: u32) -> u32
-    requires { ⌜ (3 * j < length (now list)) × (j < 256) × (idBase ≤ word (now list) (3 * j)) ⌝ }
-    ensures { λ r. ⌜ r ≡ word (now (list .entry)) (3 * j) - idBase ⌝ }
-{
-    let at = ENTRY * (j as usize);
-    list[at] - ID_BASE
+// How many entries there are, and the last slot of the queue.
+pub struct Fired {
+    pub count: u32,
+    pub end: u32,
 }
 
-// A slot of the interval chain with its ticks left; slot 0 for the chain's start.
-struct Mark {
-    slot: u32,
-    ticks: u32,
-}
-
-// Where to seek the place of a timer that goes back: from the mark where that is due by then, else from the chain's start.
-fn seek_from(mark: Mark, interval: u32) -> Mark
-    ensures { λ r. ⌜ Sought (mark .slot) (mark .ticks) interval (r .slot) (r .ticks) ⌝ }
+// The timers at the front of a chain whose wait is not above the limit fire: server timers go to the back of the queue, whose last slot is `end`, 0
+// where that is empty, and the others are listed, as entries from `from` on.
+pub fn fire(t: &mut [u32], list: &mut [u32], chain: Chain, limit: u32, from: u32, end: u32) -> Fired
+    requires { ⌜ Room chain (now t) (now list) limit from end ⌝ }
+    ensures { λ r. ⌜ Fires chain (now (t .entry)) (now (list .entry)) limit from (r .count) (r .end) (now (t .exit)) (now (list .exit)) ⌝ }
 {
-    if interval < mark.ticks {
-        return Mark { slot: 0, ticks: 0 };
-    }
-    mark
-}
-
-// Slot i goes back into the interval chain, if its timer is periodic and idle; the mark is then the slot.
-fn go_back(t: &mut [u32], i: u32, mark: Mark) -> Mark
-    requires { ⌜ GoesBack (now t) i (mark .slot) (mark .ticks) ⌝ }
-    ensures { λ r. ⌜ WentBack (now (t .entry)) i (r .slot) (r .ticks) (now (t .exit)) ⌝ }
-{
-    if get(t, i, KIND) != IDLE_EVERY {
-        return mark;
-    }
-    let interval = get(t, i, INTERVAL);
-    let sought = seek_from(mark, interval);
-    let from = sought.slot;
-    let ticks = sought.ticks;
-    wait_again(t, i, from, interval - ticks);
-    Mark {
-        slot: i,
-        ticks: interval,
-    }
-}
-
-// The periodic timers of the entries from `from` on go back, in the order of the entries. There are n entries.
-fn put_back(t: &mut [u32], list: &[u32], from: u32, n: u32)
-    requires { ⌜ Entries (now t) (now list) from n ⌝ }
-    ensures { λ _. ⌜ now (t .exit) ≡ writtenOver (backAll (slotsIn (now (list .entry)) from (n - from)) (read (now (t .entry)))) (now (t .entry)) ⌝ }
-{
-    let mut mark = Mark { slot: 0, ticks: 0 };
-    let mut j = from;
-    while j < n {
-        let i = slot_listed(list, j);
-        mark = go_back(t, i, mark);
-        j += 1;
-    }
-}
-
-// The timers at the front of a chain whose wait is not above the limit fire, as entries from `from` on; how many entries there are then.
-pub fn fire(t: &mut [u32], list: &mut [u32], chain: Chain, limit: u32, from: u32) -> u32
-    requires { ⌜ Room chain (now t) (now list) limit from ⌝ }
-    ensures { λ r. ⌜ Fires chain (now (t .entry)) (now (list .entry)) limit from r (now (t .exit)) (now (list .exit)) ⌝ }
-{
-    let off = take_off(t, list, chain, limit, from);
+    let off = take_off(t, list, chain, limit, from, end);
     let n = off.count;
+    let last = off.end;
     if off.periodic {
         put_back(t, list, from, n);
     }
-    n
+    Fired {
+        count: n,
+        end: last,
+    }
 }
 
 // Every interval timer comes one tick nearer: the first one's wait falls, and those behind it count from it.

@@ -42,7 +42,7 @@ fn wall_time(numbers: &[u32; 7]) -> WallTime
     }
 }
 
-// The calls. Each is the call of that name of `timer`, `starts` or `clock`, with the same arguments.
+// The calls. Each is the call of that name of `timer`, `starts`, `clock` or `server`, with the same arguments.
 #[no_mangle]
 pub extern "C" fn hc_lay_out(table: &mut [u32], slots: u32, rate: u32) -> u32
     ensures { λ r. ⌜ outcomeOf r (0 ∷ []) (now (table .exit)) [] ≡ outcome (now (table .entry)) (call.layOut slots rate) ⌝ }
@@ -168,4 +168,47 @@ pub extern "C" fn hc_get_clock(table: &[u32], time: &mut [u32; 7]) -> u32
     let reading = clock::get_clock(table);
     *time = reading_numbers(reading);
     reading_status(reading)
+}
+
+#[no_mangle]
+pub extern "C" fn hc_initiate_server(table: &mut [u32]) -> u32
+    ensures { λ r. ⌜ outcomeOf r (0 ∷ []) (now (table .exit)) [] ≡ outcome (now (table .entry)) call.initiateServer ⌝ }
+{
+    status_of(server::initiate_server(table))
+}
+
+#[no_mangle]
+pub extern "C" fn hc_server_fire_after(
+    table: &mut [u32],
+    id: u32,
+    ticks: u32,
+    routine: u32,
+    user_data: u32,
+) -> u32
+    ensures { λ r. ⌜ outcomeOf r (0 ∷ []) (now (table .exit)) [] ≡ outcome (now (table .entry)) (call.serverFireAfter id ticks routine user_data) ⌝ }
+{
+    status_of(server::server_fire_after(table, id, ticks, routine, user_data))
+}
+
+#[no_mangle]
+pub extern "C" fn hc_server_fire_when(
+    table: &mut [u32],
+    id: u32,
+    when: &[u32; 7],
+    routine: u32,
+    user_data: u32,
+) -> u32
+    ensures { λ r. ⌜ outcomeOf r (0 ∷ []) (now (table .exit)) [] ≡ outcome (now (table .entry)) (call.serverFireWhen id (wallTime (now (when .entry))) routine user_data) ⌝ }
+{
+    let date = wall_time(when);
+    status_of(server::server_fire_when(table, id, date, routine, user_data))
+}
+
+#[no_mangle]
+pub extern "C" fn hc_serve(table: &mut [u32], served: &mut [u32], count: &mut u32) -> u32
+    ensures { λ r. ⌜ outcomeOf r (now (count .exit) ∷ []) (now (table .exit)) (now (served .exit)) ≡ outcome (now (table .entry)) (call.serve (now (served .entry))) ⌝ }
+{
+    let answer = server::serve(table, served);
+    *count = number_in(answer);
+    status_of(answer)
 }

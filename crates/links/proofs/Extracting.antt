@@ -9,7 +9,7 @@ use mathlib.Core.List.{List, [], _∷_, _++_, append-assoc}
 use lib.ListN.{length, set}
 use lib.Seq.{set-getD}
 use Rattle.model.specs.declared.Chain.{Chain}
-use Rattle.model.specs.declared.Chain.the-variants.{ByTicks, ByDate}
+use Rattle.model.specs.declared.Chain.the-variants.{ByTicks, ByDate, Queue}
 use Rattle.model.specs.Lists.{All, Sorted}
 use Rattle.model.specs.Kinds.{kindAt, sameChain, waitsIn}
 use Rattle.model.specs.State.{Slot, Link, State, chainOf, withChain, free, slotAt, putAt, without}
@@ -17,14 +17,14 @@ use Rattle.model.specs.Directives.{stopped, idled}
 use Rattle.model.specs.Words.{first, difference, writtenOver, word, slotFrom, read, kindOf, nameOf, intervalOf, waitOf, routineOf, dataOf}
 use Rattle.model.proofs.WellFormed.{timesIn, Holds}
 use Rattle.model.proofs.Chains.{without-none}
-use Rattle.model.proofs.KindLaws.{none-in, stopped-not-in, stays}
+use Rattle.model.proofs.KindLaws.{each-chain, none-in, stopped-not-in, stays}
 use Rattle.model.proofs.StateWords.{holds-parts, Linked, holds-linked}
 use Rattle.model.proofs.ReadBack.{slots-length, slot-read}
-use Rattle.model.proofs.Steps.{chained-stopped}
+use Rattle.model.proofs.Steps.{same-state, with-chain-slots, with-chain-clock, with-chain-server, with-chain-own, with-chain-apart, stopped-chain, chained-stopped}
 use Rattle.chains.specs.EditedWords.{fieldWord, relinked, waitWithout, extractedWords, Extractable}
 use Rattle.links.specs.Places.{lastSlot, lastWait, InTable}
 use Rattle.links.proofs.LinkInMiddle.{times-at, Split, split, all-mid, sorted-next, linked-back, mid-stands, mid-once, mid-apart, mid-within, mid-sorted, last-low}
-use Rattle.chains.proofs.EditedWords.{wait-without-none, wait-without-ticks, wait-without-date, edit-set, relinked-edit}
+use Rattle.chains.proofs.EditedWords.{wait-without-none, wait-without-ticks, wait-without-date, wait-without-queue, edit-set, relinked-edit}
 use Rattle.links.proofs.Relinked.{times-but, Around, own-within, own-not-last, own-not-first, last-high, first-high, behind-within, led-front, led-back, edited}
 
 -- ---- one chain
@@ -34,23 +34,18 @@ wait-without-is : (k : Chain) (t : List ℕ) (n w a b c : ℕ) → n ≢ 0 → w
     → waitWithout k t n w ≡ difference k a c
 wait-without-is ByTicks t n w a b c h e f p q = omega (arith, wait-without-ticks t w n h)
 wait-without-is ByDate t n w a b c h e f p q = wait-without-date t w n h ∙ e
+wait-without-is Queue t n w a b c h e f p q = wait-without-queue t w n h ∙ e
 
 -- a state whose slot i is only in chain k
 stopped-as : (k : Chain) (s : State) (i : ℕ) (x : Slot) (c : List Link) → without i (chainOf k s) ≡ c
     → ((m : Chain) → sameChain m k ≡ false → timesIn (chainOf m s) i ≡ 0)
     → withChain k s (putAt (s .slots) i x) c ≡ stopped s i x
-stopped-as ByTicks s i x c e n = λ d. record {
-  slots = putAt (s .slots) i x;
-  clock = s .clock;
-  ticking = sym e d;
-  dated = sym (without-none i (s .dated) (n ByDate refl)) d;
-}
-stopped-as ByDate s i x c e n = λ d. record {
-  slots = putAt (s .slots) i x;
-  clock = s .clock;
-  ticking = sym (without-none i (s .ticking) (n ByTicks refl)) d;
-  dated = sym e d;
-}
+stopped-as k s i x c e n =
+    let sl = putAt (s .slots) i x in
+    same-state (withChain k s sl c) (stopped s i x) (with-chain-slots s sl c k) (with-chain-clock s sl c k) (with-chain-server s sl c k)
+    (each-chain (λ m. chainOf m (withChain k s sl c) ≡ chainOf m (stopped s i x)) k
+    (with-chain-own s sl c k ∙ sym e ∙ sym (stopped-chain s i x k))
+    (λ m away. with-chain-apart s sl c k m away ∙ sym (without-none i (chainOf m s) (n m away)) ∙ sym (stopped-chain s i x m)))
 
 module _ (k : Chain) (t : List ℕ) (s : State) (h : Holds t s) (xs : List Link) (e : Link) (ys : List Link) (whole : chainOf k s ≡ xs ++ e ∷ ys) where
   around : Around k s xs e ys
@@ -78,6 +73,10 @@ module _ (k : Chain) (t : List ℕ) (s : State) (h : Holds t s) (xs : List Link)
     follower-wait-fits : (m : Chain) → m ≡ k → (zs : List Link) → ys ≡ zs → waitWithout k t (first ys) (waitOf t (e .slot)) < 4294967296
     follower-wait-fits m c [] q = omega (arith, wait-without-none t (waitOf t (e .slot)) k (first ys) (ap first q))
     follower-wait-fits ByDate c (y ∷ zs) q =
+        let rest = subst (Linked k t (e .slot) (e .wait)) q rest-linked in
+        let is : waitOf t (y .slot) ≡ y .wait = rest .0 .wait ∙ ap (λ (m : Chain). difference m (e .wait) (y .wait)) (sym c) in
+        omega (arith, follower-wait y zs q, is, fits (fieldWord (y .slot) 3), ap (λ (m : Chain). difference m (lastWait 0 xs) (y .wait)) (sym c))
+    follower-wait-fits Queue c (y ∷ zs) q =
         let rest = subst (Linked k t (e .slot) (e .wait)) q rest-linked in
         let is : waitOf t (y .slot) ≡ y .wait = rest .0 .wait ∙ ap (λ (m : Chain). difference m (e .wait) (y .wait)) (sym c) in
         omega (arith, follower-wait y zs q, is, fits (fieldWord (y .slot) 3), ap (λ (m : Chain). difference m (lastWait 0 xs) (y .wait)) (sym c))
@@ -145,7 +144,7 @@ module _ (t : List ℕ) (i : ℕ) (h : InTable t i) where
   slot-is : slotAt (read t .slots) i ≡ slotFrom t i
   slot-is = slot-read t i (h .low) (h .high)
 
-  times-kind : (k : Chain) (b : Bool) → waitsIn k (kindOf t i) ≡ b → timesIn (chainOf k (read t)) i ≡ cond b 1 0
+  pub times-kind : (k : Chain) (b : Bool) → waitsIn k (kindOf t i) ≡ b → timesIn (chainOf k (read t)) i ≡ cond b 1 0
   times-kind k b e =
       h .holds .chained .meets k i ∙ ap (λ (x : Slot). cond (waitsIn k (x .kind)) 1 0) slot-is ∙ ap (λ (c : Bool). cond c 1 0) e
 

@@ -9,24 +9,25 @@ use lib.ListN.{length, getD, set}
 use lib.Dec.{leb, eqb}
 use borrow.Author.Tests.{eqb-true, eqb-false, leb-true, leb-false}
 use Rattle.model.specs.declared.Chain.{Chain}
-use Rattle.model.specs.declared.Chain.the-variants.{ByTicks, ByDate}
+use Rattle.model.specs.declared.Chain.the-variants.{ByTicks, ByDate, Queue}
 use Rattle.model.specs.Lists.{place}
 use Rattle.model.specs.declared.Mode.{Mode}
-use Rattle.model.specs.Kinds.{chainFor, waitingKind}
+use Rattle.model.specs.Kinds.{chainFor, waitingKind, intervalIn}
 use Rattle.model.specs.State.{Slot, Link, State, chainOf, withChain, slotAt, putAt}
-use Rattle.model.specs.Directives.{stopped, became, inserted, intervalIn, waitingAs, started}
+use Rattle.model.specs.Directives.{stopped, became, inserted, waitingAs, started}
 use Rattle.model.specs.Words.{first, difference, writtenOver, read, nameOf, waitOf}
 use Rattle.model.proofs.ListLaws.{cases, count-append}
 use Rattle.model.proofs.WellFormed.{timesIn, Chained, Holds}
 use Rattle.model.proofs.Chains.{without-none, once, once-apart, met-in-range}
 use Rattle.model.proofs.StateWords.{holds-parts, Linked}
-use Rattle.model.proofs.Steps.{chained-started}
+use Rattle.model.proofs.KindLaws.{each-chain}
+use Rattle.model.proofs.Steps.{same-state, with-chain-slots, with-chain-clock, with-chain-server, with-chain-own, with-chain-apart, stopped-chain, chained-started}
 use Rattle.chains.specs.EditedWords.{fieldWord, relinked, waitBehind, insertedWords, Insertable}
 use Rattle.links.specs.Places.{upTo, beyond, lastSlot, lastWait, At, IdleInTable}
 use Rattle.links.specs.TimerWords.{timerPut}
 use Rattle.links.proofs.LinkInMiddle.{times-at}
 use Rattle.links.proofs.TimerWords.{timer-put-edit}
-use Rattle.chains.proofs.EditedWords.{wait-behind-ticks, wait-behind-date, Edit, edit-set, slotList, slotOf, relinked-edit}
+use Rattle.chains.proofs.EditedWords.{wait-behind-ticks, wait-behind-date, wait-behind-queue, Edit, edit-set, slotList, slotOf, relinked-edit}
 use Rattle.links.proofs.Relinked.{times-but, Around, own-not-last, own-not-first, last-high, first-high, behind-within, Led, led-tail, holds-led, led-front, led-back, edited}
 use Rattle.links.proofs.Extracting.{in-slots, in-none}
 
@@ -56,22 +57,24 @@ wait-behind-is : (k : Chain) (t : List ℕ) (n w a b c : ℕ) → n ≢ 0 → wa
     → waitBehind k t n w ≡ difference k b c
 wait-behind-is ByTicks t n w a b c h e f p q = omega (arith, wait-behind-ticks t w n h)
 wait-behind-is ByDate t n w a b c h e f p q = wait-behind-date t w n h ∙ e
+wait-behind-is Queue t n w a b c h e f p q = wait-behind-queue t w n h ∙ e
 
 -- a state whose slot i is in no chain
 pub started-as : (k : Chain) (s : State) (i n : ℕ) (x : Slot) (c : List Link) → ((m : Chain) → timesIn (chainOf m s) i ≡ 0)
     → place (λ w. w .wait) (record { slot = i; wait = n }) (chainOf k s) ≡ c → withChain k s (putAt (s .slots) i x) c ≡ inserted k (stopped s i x) i n
-started-as ByTicks s i n x c none e = λ d. record {
-  slots = putAt (s .slots) i x;
-  clock = s .clock;
-  ticking = (sym e ∙ ap (place (λ w. w .wait) (record { slot = i; wait = n })) (sym (without-none i (s .ticking) (none ByTicks)))) d;
-  dated = sym (without-none i (s .dated) (none ByDate)) d;
-}
-started-as ByDate s i n x c none e = λ d. record {
-  slots = putAt (s .slots) i x;
-  clock = s .clock;
-  ticking = sym (without-none i (s .ticking) (none ByTicks)) d;
-  dated = (sym e ∙ ap (place (λ w. w .wait) (record { slot = i; wait = n })) (sym (without-none i (s .dated) (none ByDate)))) d;
-}
+started-as k s i n x c none e =
+    let sl = putAt (s .slots) i x in
+    let o = stopped s i x in
+    let goes : List Link → List Link = place (λ w. w .wait) (record { slot = i; wait = n }) in
+    let c′ = goes (chainOf k o) in
+    let stays : (m : Chain) → chainOf m s ≡ chainOf m o = λ m. sym (without-none i (chainOf m s) (none m)) ∙ sym (stopped-chain s i x m) in
+    same-state (withChain k s sl c) (inserted k o i n)
+    (with-chain-slots s sl c k ∙ sym (with-chain-slots o sl c′ k))
+    (with-chain-clock s sl c k ∙ sym (with-chain-clock o sl c′ k))
+    (with-chain-server s sl c k ∙ sym (with-chain-server o sl c′ k))
+    (each-chain (λ m. chainOf m (withChain k s sl c) ≡ chainOf m (inserted k o i n)) k
+    (with-chain-own s sl c k ∙ sym e ∙ ap goes (stays k) ∙ sym (with-chain-own o sl c′ k))
+    (λ m away. with-chain-apart s sl c k m away ∙ stays m ∙ sym (with-chain-apart o sl c′ k m away)))
 
 -- ---- one chain
 

@@ -11,7 +11,7 @@ use lib.ListN.{length, getD}
 use lib.Dec.{ltb, eqb}
 use borrow.Author.Tests.{ltb-true, ltb-false, eqb-true, eqb-false, eq-eqb, ne-eqb}
 use Rattle.model.specs.declared.Chain.{Chain}
-use Rattle.model.specs.declared.Chain.the-variants.{ByTicks, ByDate}
+use Rattle.model.specs.declared.Chain.the-variants.{ByTicks, ByDate, Queue}
 use Rattle.model.specs.Kinds.{sameChain}
 use Rattle.model.specs.State.{Link, Clock, State, chainOf, withChain, putAt}
 use Rattle.model.specs.Words.{first, difference, write, writtenOver, word, field, headWord, slotFrom, ticksInto}
@@ -22,7 +22,7 @@ use Rattle.model.proofs.WellFormed.{timesIn, Chained, Holds}
 use Rattle.model.proofs.Chains.{times-own, met-in-range}
 use Rattle.model.proofs.KindLaws.{each-chain}
 use Rattle.model.proofs.StateWords.{headWords, linkWord, link-field, Lay, Loose, Parts, holds-parts, parts-holds, Linked, linked-lay, holds-linked}
-use Rattle.model.proofs.Steps.{with-chain-slots, with-chain-clock, with-chain-own, with-chain-apart, with-chain-each}
+use Rattle.model.proofs.Steps.{with-chain-slots, with-chain-clock, with-chain-server, with-chain-own, with-chain-apart, with-chain-each}
 use Rattle.links.specs.Places.{lastSlot, lastWait}
 use Rattle.links.proofs.LinkInMiddle.{times-more, times-mid, times-at}
 use Rattle.chains.proofs.EditedWords.{head-low, Edit, slotOf, own-slot, kept, kept-link, kept-head, kept-rest}
@@ -168,30 +168,36 @@ module _ {k : Chain} {t u : List ℕ} {p l n q v i : ℕ} {ws : List ℕ} (edit 
 
 -- ---- the state after the edit
 
-same-heads : (s s′ : State) → length (s .slots) ≡ length (s′ .slots) → s .clock ≡ s′ .clock → (m : ℕ) → m < 10 → m ≢ 5 → m ≢ 6
-    → getD (headWords s) m 0 ≡ getD (headWords s′) m 0
-same-heads s s′ e c = each-at (λ m n. m ≢ 5 → m ≢ 6 → n ≡ getD (headWords s′) m 0) 0 (headWords s) (
-    (λ _ _. e)
-    & (λ _ _. ap (λ (x : Clock). x .perSecond) c)
-    & (λ _ _. ap (λ (x : Clock). cond (x .isSet) 1 0) c)
-    & (λ _ _. ap (λ (x : Clock). x .second) c)
-    & (λ _ _. ap (λ (x : Clock). x .ticksInto) c)
-    & (λ a _. absurd (a refl))
-    & (λ _ b. absurd (b refl))
-    & (λ _ _. refl)
-    & (λ _ _. refl)
-    & (λ _ _. refl)
+same-heads : (s s′ : State) → length (s .slots) ≡ length (s′ .slots) → s .clock ≡ s′ .clock → s .server ≡ s′ .server
+    → (m : ℕ) → m < 10 → m ≢ 5 → m ≢ 6 → m ≢ 9 → getD (headWords s) m 0 ≡ getD (headWords s′) m 0
+same-heads s s′ e c v = each-at (λ m n. m ≢ 5 → m ≢ 6 → m ≢ 9 → n ≡ getD (headWords s′) m 0) 0 (headWords s) (
+    (λ _ _ _. e)
+    & (λ _ _ _. ap (λ (x : Clock). x .perSecond) c)
+    & (λ _ _ _. ap (λ (x : Clock). cond (x .isSet) 1 0) c)
+    & (λ _ _ _. ap (λ (x : Clock). x .second) c)
+    & (λ _ _ _. ap (λ (x : Clock). x .ticksInto) c)
+    & (λ a _ _. absurd (a refl))
+    & (λ _ b _. absurd (b refl))
+    & (λ _ _ _. refl)
+    & (λ _ _ _. ap {B = ℕ} (λ (b : Bool). cond b 1 0) v)
+    & (λ _ _ d. absurd (d refl))
     & end)
 
-not-head : (k : Chain) (m : ℕ) → m ≢ 5 → m ≢ 6 → m ≢ headWord k
-not-head ByTicks m a b = a
-not-head ByDate m a b = b
+not-head : (k : Chain) (m : ℕ) → m ≢ 5 → m ≢ 6 → m ≢ 9 → m ≢ headWord k
+not-head ByTicks m a b d = a
+not-head ByDate m a b d = b
+not-head Queue m a b d = d
 
 other-head : (m k : Chain) → sameChain m k ≡ false → headWord m ≢ headWord k
 other-head ByTicks ByTicks e = clash e
 other-head ByTicks ByDate e = omega arith
+other-head ByTicks Queue e = omega arith
 other-head ByDate ByTicks e = omega arith
 other-head ByDate ByDate e = clash e
+other-head ByDate Queue e = omega arith
+other-head Queue ByTicks e = omega arith
+other-head Queue ByDate e = omega arith
+other-head Queue Queue e = clash e
 
 module _ {k : Chain} {t u : List ℕ} {s : State} {xs : List Link} {e : Link} {ys : List Link} {l q v : ℕ} {ws : List ℕ}
     (h : Holds t s) (a : Around k s xs e ys) (edit : Edit k t u (lastSlot 0 xs) l (first ys) q v (e .slot) ws) where
@@ -259,8 +265,8 @@ module _ {k : Chain} {t u : List ℕ} {s : State} {xs : List Link} {e : Link} {y
         let size : length (withChain k s slots c .slots) ≡ length (s .slots) =
         ap length (with-chain-slots s slots c k) ∙ length-put (s .slots) (e .slot) (slotOf ws) in
         record {
-          heads = λ m p f g. kept-head edit m p (not-head k m f g) ∙ before .heads m p f g
-              ∙ same-heads s (withChain k s slots c) (sym size) (sym (with-chain-clock s slots c k)) m p f g;
+          heads = λ m p f g i. kept-head edit m p (not-head k m f g i) ∙ before .heads m p f g i
+              ∙ same-heads s (withChain k s slots c) (sym size) (sym (with-chain-clock s slots c k)) (sym (with-chain-server s slots c k)) m p f g i;
           lay = with-chain-each s slots c (λ m l. Lay m u l) k (linked-lay k u c (led .link) (led .linked)) other-lay;
           loose = λ j p b z. cases (eqb j (e .slot))
               (λ f.

@@ -20,7 +20,7 @@ use Rattle.links.specs.Places.{InTable, IdleInTable}
 use Rattle.links.proofs.Extracting.{in-slots}
 use Rattle.links.proofs.NextState.{Next, next-start, next-read, next-holds, next-then}
 
-stopped-twice : (s : State) (i : ℕ) (x y : Slot) → stopped (stopped s i x) i y ≡ stopped s i y
+pub stopped-twice : (s : State) (i : ℕ) (x y : Slot) → stopped (stopped s i x) i y ≡ stopped s i y
 stopped-twice s i x y =
     let once : (l : List Link) → without i (without i l) ≡ without i l = λ l. without-none i (without i l) (times-without i l) in
     λ d. record {
@@ -28,6 +28,8 @@ stopped-twice s i x y =
       clock = s .clock;
       ticking = once (s .ticking) d;
       dated = once (s .dated) d;
+      server = s .server;
+      queue = once (s .queue) d;
     }
 
 abbrev pub stoppedAt : List ℕ → ℕ → State
@@ -42,7 +44,7 @@ module _ (t : List ℕ) (i : ℕ) (h : InTable t i) (u : List ℕ) (is : u ≡ w
       (chained-stopped (read t) (h .holds .chained) i (idled x) (h .low) (in-slots t i h) (λ k. stopped-not-in k (x .kind)))
       (length-stopped (read t) i (idled x)) is
 
-  slot-now : slotAt (stoppedAt t i .slots) i ≡ idled (slotAt (read t .slots) i)
+  pub slot-now : slotAt (stoppedAt t i .slots) i ≡ idled (slotAt (read t .slots) i)
   slot-now = at-same (read t .slots) i (idled (slotAt (read t .slots) i)) (h .low) (in-slots t i h)
 
   size-now : length (stoppedAt t i .slots) ≡ length (read t .slots)

@@ -3,6 +3,7 @@
 use mathlib.Core.Path.{_≡_, refl, sym, ap, _∙_}
 use Prim.Native.Nat.{ℕ, zero, suc, _+_, _*_, _<_}
 use native.Mathlib.Omega.{arith}
+use mathlib.Core.Bool.{Bool}
 use mathlib.Core.List.{List, [], _∷_, _++_}
 use lib.ListN.{length, set, drop, length-set}
 use Rattle.model.specs.State.{Slot, Clock, State}
@@ -20,10 +21,10 @@ spelt l m x =
     set (set (set (set (set l (m + 1) (x .name)) (m + 0) (x .kind)) (m + 2) (x .interval)) (m + 4) (x .routine)) (m + 5) (x .userData)
 
 -- the words of slots come from them and the chains, whatever else the state has
-pub same-slots : (s : State) (slots : List Slot) (clock : Clock) (b : ℕ) (xs : List Slot) (rest : List ℕ)
-    → allSlots (record { slots = slots; clock = clock; ticking = s .ticking; dated = s .dated }) b xs rest ≡ allSlots s b xs rest
-same-slots s slots clock b [] rest = refl
-same-slots s slots clock b (x ∷ xs) rest = ap (slotWords s b x) (same-slots s slots clock (suc b) xs rest)
+pub same-slots : (s : State) (slots : List Slot) (clock : Clock) (server : Bool) (b : ℕ) (xs : List Slot) (rest : List ℕ)
+    → allSlots (record { slots = slots; clock = clock; ticking = s .ticking; dated = s .dated; server = server; queue = s .queue }) b xs rest ≡ allSlots s b xs rest
+same-slots s slots clock server b [] rest = refl
+same-slots s slots clock server b (x ∷ xs) rest = ap (slotWords s b x) (same-slots s slots clock server (suc b) xs rest)
 
 put-slot : (s : State) (b j : ℕ) (x : Slot) (xs : List Slot) (rest : List ℕ) → j < length xs
     → spelt (allSlots s b xs rest) (8 * j) x ≡ allSlots s b (set xs j x) rest
@@ -45,7 +46,7 @@ store-words t (suc j) x h =
     ap (λ (u : List ℕ). spelt u (2 + 8 * suc j) x) (sym (h .holds .is))
     ∙ rw (length-set (s .slots) j x, at 1, at 0, at 2, at 4, at 5) (ap (λ (l : List ℕ). headWords s ++ l)
     (put-slot s 1 j x (s .slots) rest (omega (arith, h .high, slots-length t))
-    ∙ sym (same-slots s (set (s .slots) j x) (s .clock) 1 (set (s .slots) j x) rest)))
+    ∙ sym (same-slots s (set (s .slots) j x) (s .clock) (s .server) 1 (set (s .slots) j x) rest)))
   where
     at : (f : ℕ) → 2 + 8 * suc j + f ≡ suc (suc (suc (suc (suc (suc (suc (suc (suc (suc (8 * j + f))))))))))
     at f = omega arith

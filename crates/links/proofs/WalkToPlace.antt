@@ -8,7 +8,7 @@ use mathlib.Core.List.{List, [], _∷_, _++_, append-assoc, append-nil}
 use lib.ListN.{length, length-append}
 use borrow.Author.Tests.{le-leb, lt-leb}
 use Rattle.model.specs.declared.Chain.{Chain}
-use Rattle.model.specs.declared.Chain.the-variants.{ByTicks, ByDate}
+use Rattle.model.specs.declared.Chain.the-variants.{ByTicks, ByDate, Queue}
 use Rattle.model.specs.Lists.{All, Sorted}
 use Rattle.model.specs.State.{Link, chainOf, waitAt}
 use Rattle.model.specs.Words.{first, difference, accumulated, word, read, waitOf, nextOf}
@@ -25,22 +25,27 @@ use Rattle.links.proofs.Positions.{position, last-of}
 differ-less : (k : Chain) (b w n : ℕ) → b ≤ w → b ≤ n → difference k b n < difference k b w → n < w
 differ-less ByTicks b w n p q r = omega arith
 differ-less ByDate b w n p q r = r
+differ-less Queue b w n p q r = r
 
 differ-more : (k : Chain) (b w n : ℕ) → b ≤ w → b ≤ n → difference k b w ≤ difference k b n → w ≤ n
 differ-more ByTicks b w n p q r = omega arith
 differ-more ByDate b w n p q r = r
+differ-more Queue b w n p q r = r
 
 differ-on : (k : Chain) (b w n : ℕ) → b ≤ w → w ≤ n → difference k (difference k b w) (difference k b n) ≡ difference k w n
 differ-on ByTicks b w n p q = omega arith
 differ-on ByDate b w n p q = refl
+differ-on Queue b w n p q = refl
 
 pub differ-zero : (k : Chain) (n : ℕ) → difference k 0 n ≡ n
 differ-zero ByTicks n = omega arith
 differ-zero ByDate n = refl
+differ-zero Queue n = refl
 
 differ-low : (k : Chain) (w n : ℕ) → difference k w n ≤ n
 differ-low ByTicks w n = omega arith
 differ-low ByDate w n = omega arith
+differ-low Queue w n = omega arith
 
 -- ---- a front that is due
 
@@ -95,6 +100,7 @@ module _ (k : Chain) (t : List ℕ) where
       none : (k : Chain) → accumulated k 0 n ≡ n
       none ByTicks = omega arith
       none ByDate = refl
+      none Queue = refl
 
   -- from a slot of the chain
   from-slot : (p left i : ℕ) → From k t p left → i ≡ word t (linkWord k p) → 0 < p → Split p (chainOf k (read t))

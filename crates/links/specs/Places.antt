@@ -6,11 +6,9 @@ use mathlib.Core.List.{List, [], _∷_}
 use lib.Dec.{leb}
 use Rattle.model.specs.declared.Chain.{Chain}
 use Rattle.model.specs.declared.Chain.the-variants.{ByTicks}
-use Rattle.model.specs.declared.Mode.the-variants.{Every}
-use Rattle.model.specs.Kinds.{kindAt, waitingKind, waitsIn}
-use Rattle.model.specs.State.{Link, State, chainOf, slotAt, waitAt}
-use Rattle.model.specs.Directives.{stored, became, inserted}
-use Rattle.model.specs.Words.{word, read, difference, accumulated, slotCount, kindOf, intervalOf}
+use Rattle.model.specs.Kinds.{kindAt, waitsIn}
+use Rattle.model.specs.State.{Link, State, chainOf, waitAt}
+use Rattle.model.specs.Words.{word, read, difference, accumulated, slotCount, kindOf, waitOf, previousOf}
 use Rattle.model.proofs.WellFormed.{timesIn, Holds}
 
 -- the first links of a chain, whose wait is not above n, and the others
@@ -48,6 +46,12 @@ pub record Stops (t : List ℕ) (k : Chain) (i idle : ℕ) : Type 0 where
   pub waits : waitsIn k (kindOf t i) ≡ true
   pub kind : idle ≡ kindAt (kindOf t i) .whenStopped
 
+-- it is the first there, and due where it waits for ticks
+pub record FirstStops (t : List ℕ) (k : Chain) (i idle : ℕ) : Type 0 where
+  pub stops : Stops t k i idle
+  pub first : previousOf t i ≡ 0
+  pub due : k ≡ ByTicks → waitOf t i ≡ 0
+
 -- it does not wait
 pub record IdleInTable (t : List ℕ) (i : ℕ) : Type 0 where
   pub in-table : InTable t i
@@ -58,15 +62,3 @@ pub record From (k : Chain) (t : List ℕ) (p amount : ℕ) : Type 0 where
   pub holds : Holds t (read t)
   pub there : 0 < p → 0 < timesIn (chainOf k (read t)) p
   pub due : waitAt p (chainOf k (read t)) ≤ accumulated k (waitAt p (chainOf k (read t))) amount
-
--- an idle periodic timer waits again, for its interval
-abbrev pub waitsAgain : State → ℕ → State
-waitsAgain s i =
-    let x = slotAt (s .slots) i in
-    inserted ByTicks (stored s i (became (waitingKind Every) x)) i (x .interval)
-
--- slot i does not wait, and its interval is `left` more than the ticks left of slot p
-pub record Again (t : List ℕ) (i p left : ℕ) : Type 0 where
-  pub idle : IdleInTable t i
-  pub from : From ByTicks t p left
-  pub sum : waitAt p (read t .ticking) + left ≡ intervalOf t i

@@ -4,14 +4,15 @@ ghost use mathlib.Core.Path.{_≡_};
 ghost use Prim.Native.Nat.{_+_, _*_, _<_, _≤_};
 ghost use mathlib.Core.Bool.{true};
 ghost use lib.ListN.{length};
-ghost use Rattle.model.specs.Kinds.{kindAt, chainFor, waitingKind, linked, waitsIn};
+ghost use Rattle.model.specs.Kinds.{kindAt, chainFor, waitingKind, intervalIn, linked, waitsIn};
 ghost use Rattle.model.specs.State.{chainOf, slotAt, waitAt};
-ghost use Rattle.model.specs.Directives.{stored, stopped, idled, intervalIn, started};
-ghost use Rattle.model.specs.Words.{difference, accumulated, read, writtenOver, waitOf};
+ghost use Rattle.model.specs.Directives.{stored, stopped, idled, started};
+ghost use Rattle.model.specs.Words.{difference, accumulated, read, writtenOver, waitOf, nextOf};
 ghost use Rattle.model.proofs.WellFormed.{Holds, timesIn};
-ghost use Rattle.links.specs.Places.{At, InTable, Stops, IdleInTable, From, Again, waitsAgain};
+ghost use Rattle.links.specs.Places.{At, InTable, Stops, FirstStops, IdleInTable, From};
 ghost use Rattle.links.specs.TimerWords.{timerPut};
 use chains::extract;
+use chains::extract_first;
 use chains::follower;
 use chains::insert;
 use model::Chain;
@@ -25,7 +26,13 @@ use table::KIND;
 use table::NAME;
 use table::NEXT;
 use table::PREVIOUS;
+use table::QUEUED_DATE;
+use table::QUEUED_TICKS;
 use table::ROUTINE;
+use table::SERVER_IDLE_DATE;
+use table::SERVER_IDLE_TICKS;
+use table::SERVER_WAITING_DATE;
+use table::SERVER_WAITING_TICKS;
 use table::WAIT;
 use table::WAITING_DATE;
 use table::WAITING_EVERY;
@@ -41,6 +48,8 @@ fn chain_for(mode: Mode) -> Chain
         Mode::After => Chain::ByTicks,
         Mode::When => Chain::ByDate,
         Mode::Every => Chain::ByTicks,
+        Mode::ServerAfter => Chain::ByTicks,
+        Mode::ServerWhen => Chain::ByDate,
     }
 }
 
@@ -52,6 +61,8 @@ fn waiting_kind(mode: Mode) -> u32
         Mode::After => WAITING_TICKS,
         Mode::When => WAITING_DATE,
         Mode::Every => WAITING_EVERY,
+        Mode::ServerAfter => SERVER_WAITING_TICKS,
+        Mode::ServerWhen => SERVER_WAITING_DATE,
     }
 }
 
@@ -62,10 +73,11 @@ fn interval_in(chain: Chain, amount: u32) -> u32
     match chain {
         Chain::ByTicks => amount,
         Chain::ByDate => 0,
+        Chain::Queue => 0,
     }
 }
 
-// The kind of a timer that stops; one that does not wait keeps its own.
+// The kind of a timer that stops; one that is in no chain keeps its own.
 pub fn stopped_kind(kind: u32) -> u32
     ensures { λ r. ⌜ r ≡ kindAt kind .whenStopped ⌝ }
 {
@@ -78,30 +90,58 @@ pub fn stopped_kind(kind: u32) -> u32
     if kind == WAITING_EVERY {
         return IDLE_EVERY;
     }
+    if kind == SERVER_WAITING_TICKS {
+        return SERVER_IDLE_TICKS;
+    }
+    if kind == SERVER_WAITING_DATE {
+        return SERVER_IDLE_DATE;
+    }
+    if kind == QUEUED_TICKS {
+        return SERVER_IDLE_TICKS;
+    }
+    if kind == QUEUED_DATE {
+        return SERVER_IDLE_DATE;
+    }
     kind
 }
 
-// The chain in which a timer of the kind waits.
+// The chain in which a timer of the kind stands.
 fn chain_in(kind: u32) -> Chain
     requires { ⌜ linked kind ≡ true ⌝ }
     ensures { λ r. ⌜ waitsIn r kind ≡ true ⌝ }
 {
+    if QUEUED_TICKS <= kind {
+        return Chain::Queue;
+    }
     if kind == WAITING_DATE {
+        return Chain::ByDate;
+    }
+    if kind == SERVER_WAITING_DATE {
         return Chain::ByDate;
     }
     Chain::ByTicks
 }
 
-// A timer that waits in the chain stops, as that kind.
-pub fn stop_in(t: &mut [u32], chain: Chain, i: u32, idle: u32)
+// A timer that stands in the chain stops, as that kind.
+fn stop_in(t: &mut [u32], chain: Chain, i: u32, idle: u32)
     requires { ⌜ Stops (now t) chain i idle ⌝ }
     ensures { λ _. ⌜ now (t .exit) ≡ writtenOver (stopped (read (now (t .entry))) i (idled (slotAt (read (now (t .entry)) .slots) i))) (now (t .entry)) ⌝ }
 {
     extract(t, chain, i);
-    put(t, i, KIND, idle);
+    put(t, i, KIND, idle)
 }
 
-// A waiting timer becomes idle of its own kind; one that does not wait stays as it is.
+// The first timer of the chain stops, as that kind; in the interval chain it is due. Gives the slot that followed it.
+pub fn stop_first(t: &mut [u32], chain: Chain, i: u32, idle: u32) -> u32
+    requires { ⌜ FirstStops (now t) chain i idle ⌝ }
+    ensures { λ r. ⌜ (now (t .exit) ≡ writtenOver (stopped (read (now (t .entry))) i (idled (slotAt (read (now (t .entry)) .slots) i))) (now (t .entry))) × (r ≡ nextOf (now (t .entry)) i) ⌝ }
+{
+    let next = extract_first(t, chain, i);
+    put(t, i, KIND, idle);
+    next
+}
+
+// A waiting or queued timer becomes idle of its own kind; one in no chain stays as it is.
 pub fn stop(t: &mut [u32], i: u32)
     requires { ⌜ InTable (now t) i ⌝ }
     ensures { λ _. ⌜ now (t .exit) ≡ writtenOver (stopped (read (now (t .entry))) i (idled (slotAt (read (now (t .entry)) .slots) i))) (now (t .entry)) ⌝ }
@@ -115,9 +155,9 @@ pub fn stop(t: &mut [u32], i: u32)
 }
 
 // Where a timer goes: the slot before it, and its wait.
-struct Place {
-    before: u32,
-    wait: u32,
+pub struct Place {
+    pub before: u32,
+    pub wait: u32,
 }
 
 // What is left of some ticks behind a slot of wait w; a date stays.
@@ -128,12 +168,13 @@ fn behind(chain: Chain, left: u32, w: u32) -> u32
     match chain {
         Chain::ByTicks => left - w,
         Chain::ByDate => left,
+        Chain::Queue => left,
     }
 }
 
 // The place of a timer that is due `amount` ticks after slot `from`, or at the date `amount`: behind every timer due by then. Slot `from` is
 // one of the chain that is due by then, or 0 for the chain's start.
-fn place_from(t: &[u32], chain: Chain, from: u32, amount: u32) -> Place
+pub fn place_from(t: &[u32], chain: Chain, from: u32, amount: u32) -> Place
     requires { ⌜ From chain (now t) from amount ⌝ }
     ensures { λ r. ⌜ At chain (read (now (t .entry))) (accumulated chain (waitAt from (chainOf chain (read (now (t .entry))))) amount) (r .before) (r .wait) ⌝ }
 {
@@ -201,19 +242,6 @@ pub fn start(t: &mut [u32], mode: Mode, i: u32, amount: u32, routine: u32, user_
 {
     stop(t, i);
     start_idle(t, mode, i, amount, routine, user_data);
-}
-
-// An idle periodic timer waits again for its interval, behind every timer due at the same tick: it is due `left` ticks after slot `from`, or
-// from now where `from` is 0.
-pub fn wait_again(t: &mut [u32], i: u32, from: u32, left: u32)
-    requires { ⌜ Again (now t) i from left ⌝ }
-    ensures { λ _. ⌜ now (t .exit) ≡ writtenOver (waitsAgain (read (now (t .entry))) i) (now (t .entry)) ⌝ }
-{
-    let place = place_from(t, Chain::ByTicks, from, left);
-    let p = place.before;
-    let w = place.wait;
-    insert(t, Chain::ByTicks, p, i, w);
-    put(t, i, KIND, WAITING_EVERY);
 }
 
 // A slot gets another kind and name, and what was stored at a start is cleared.

@@ -1,32 +1,31 @@
--- Every accepted call of the twelve keeps agreement with the events, and lists what is due in it. Assumes nothing.
+-- Every accepted call keeps agreement with the events, and lists what fires in it or is handed out. Assumes nothing.
 use mathlib.Core.Path.{_≡_, refl, sym, ap, ap₂, _∙_, subst}
-use Prim.Native.Nat.{ℕ, _<_}
+use Prim.Native.Nat.{ℕ, _≤_, _<_}
 use native.Mathlib.Omega.{arith}
-use mathlib.Core.Bool.{Bool, true, false}
+use mathlib.Core.Bool.{Bool, true, false, not, _||_}
 use mathlib.Core.Option.{Option, some}
-use mathlib.Core.List.{List, [], _∷_, _++_, map, map-append, cons≢nil}
-use lib.ListN.{length}
+use mathlib.Core.List.{List, [], _∷_, _++_, map, append-nil, nil≢cons, cons≢nil, head-eq-of-cons-eq}
+use lib.ListN.{length, take, length-map, length-append}
 use lib.Dec.{eqb}
 use borrow.Author.Tests.{eqb-true}
 use Rattle.calendar.specs.Calendar.{secondsOf}
 use Rattle.calendar.proofs.Theorems.{seconds-in-range}
-use Rattle.model.specs.Lists.{keep, All}
 use Rattle.model.specs.Status.{firstOf}
-use Rattle.model.specs.Calls.{Call, layOut, create, ident, cancel, delete, fireAfter, fireWhen, fireEvery, reset, ticksLeft, tick, setClock, getClock}
-use Rattle.model.specs.Kinds.{Chain, ByTicks, ByDate, After, When, Every, kindAt, chainFor, lastMode}
-use Rattle.model.specs.State.{State, free, slotAt, indexOf, Fired, listed}
+use Rattle.model.specs.Calls.{Call, layOut, create, ident, cancel, delete, fireAfter, fireWhen, fireEvery, reset, ticksLeft, tick, setClock, getClock, initiateServer, serverFireAfter, serverFireWhen, serve}
+use Rattle.model.specs.Kinds.{Chain, ByTicks, ByDate, Queue, After, When, Every, ServerAfter, ServerWhen, kindAt, chainFor, forServer, lastMode}
+use Rattle.model.specs.State.{Link, State, free, slotAt, indexOf, Fired, listed}
 use Rattle.model.specs.Directives.{refusals, lowestFree, neverStarted, idled, effect}
-use Rattle.model.specs.History.{Start, startOf, Event, laidOutFor, changes, deletes, oneTick, clockSetTo, nothing, lastStart, eventOf, isTick, movesClock, Placed, starts, entry}
-use Rattle.model.proofs.ListLaws.{clash, all, keep-none}
+use Rattle.model.specs.History.{Start, startOf, Event, laidOutFor, changes, deletes, oneTick, clockSetTo, initiates, servesFront, nothing, lastStart, eventOf, movesClock, Placed, entryOf, entry, Waiting, servesIn, queuedAs}
+use Rattle.model.specs.Demand.{shown}
+use Rattle.model.proofs.ListLaws.{clash}
 use Rattle.model.proofs.WellFormed.{WellFormed}
 use Rattle.model.proofs.KindLaws.{timed-mode, timed-last}
 use Rattle.model.proofs.Slots.{memo, memo-idled}
 use Rattle.model.proofs.Searches.{found}
 use Rattle.model.proofs.AcceptedCalls.{accepted-facts}
-use Rattle.model.proofs.HistoryLaws.{Sized, dueNow, chainFrom, firingIn, chain-fires}
-use Rattle.model.proofs.ChainLaws.{bringsDue, not-due}
-use Rattle.model.proofs.Simulation.{Remembers, Agrees, no-start, on-nothing, on-stored, on-lay-out, on-stop, on-delete, on-start}
-use Rattle.model.proofs.ClockSimulation.{on-set-clock, set-clock-fires, on-tick, tick-fires}
+use Rattle.model.proofs.HistoryLaws.{firingIn, none-due}
+use Rattle.model.proofs.Simulation.{Remembers, Agrees, no-start, on-nothing, on-initiate, on-stored, on-lay-out, on-serve, on-stop, on-delete, on-start}
+use Rattle.model.proofs.ClockSimulation.{on-set-clock, set-clock-lists, on-tick, tick-lists}
 
 module _ (s : State) (h : List Event) (v : Agrees s h) (f : WellFormed s) (words : List ℕ) where
   -- what a timer that a reset starts again remembers is its last start
@@ -88,64 +87,119 @@ module _ (s : State) (h : List Event) (v : Agrees s h) (f : WellFormed s) (words
   agrees-step (tick list) e = on-tick s h v f
   agrees-step (setClock w list) e = on-set-clock s h v f (secondsOf w) (seconds-in-range w (accepted-facts words s (setClock w list) e .1))
   agrees-step getClock e = on-nothing s h v
+  agrees-step initiateServer e = on-initiate s h v
+  agrees-step (serverFireAfter id n r u) e =
+      let p = accepted-facts words s (serverFireAfter id n r u) e .1 in
+      let q = p .names-one in
+      on-start s h v id (indexOf id) (q .is) (q .low) (q .high) ServerAfter n r u (p .ticks)
+  agrees-step (serverFireWhen id w r u) e =
+      let p = accepted-facts words s (serverFireWhen id w r u) e .1 in
+      let q = p .names-one in
+      on-start s h v id (indexOf id) (q .is) (q .low) (q .high) ServerWhen (secondsOf w) r u tt
+  agrees-step (serve list) e = on-serve s h v
 
 -- ---- what is listed
 
-no-tick : (e : Event) → movesClock e ≡ false → isTick e ≡ false
-no-tick (laidOutFor k) z = refl
-no-tick (changes i s) z = refl
-no-tick (deletes i) z = refl
-no-tick oneTick z = clash z
-no-tick (clockSetTo d) z = refl
-no-tick nothing z = refl
+-- what a call that is the event e lists: the timers that fire in it, and then the front of the queue, if that is handed out
+abbrev pub listing : List Event → Event → List Start → List Fired
+listing h e q = map entry (firingIn ByTicks h e ++ firingIn ByDate h e) ++ map entryOf (take (servesIn e) q)
 
-module _ (h : List Event) (sized : All Sized (starts h)) (e : Event) where
-  empty : (l : List Placed) → map entry l ≡ [] → l ≡ []
-  empty [] z = refl
-  empty (x ∷ xs) z = absurd (cons≢nil z)
-
-  -- an event that does not move the clock makes nothing due
-  pub none-due : (k : Chain) → movesClock e ≡ false → firingIn k h e ≡ []
-  none-due k still =
-      empty (firingIn k h e)
-      (chain-fires k h sized e
-      ∙ ap (map (λ w. w .shows)) (keep-none (dueNow k e h) (chainFrom k h) (all (not-due k e (calm k) h) (chainFrom k h))))
-    where
-      calm : (k : Chain) → bringsDue k e ≡ false
-      calm ByTicks = no-tick e still
-      calm ByDate = still
-
-  none-listed : movesClock e ≡ false → [] ≡ map entry (firingIn ByTicks h e ++ firingIn ByDate h e)
-  none-listed still = sym (ap₂ (λ (a b : List Placed). map entry (a ++ b)) (none-due ByTicks still) (none-due ByDate still))
-
-  -- the listed ones are those due, interval timers first
-  both-due : (fired : List Fired) → fired ≡ map (λ w. w .shows) (keep (dueNow ByTicks e h) (chainFrom ByTicks h))
-      ++ map (λ w. w .shows) (keep (dueNow ByDate e h) (chainFrom ByDate h)) → fired ≡ map entry (firingIn ByTicks h e ++ firingIn ByDate h e)
-  both-due fired z =
-      z ∙ ap₂ (λ (a b : List Fired). a ++ b) (sym (chain-fires ByTicks h sized e)) (sym (chain-fires ByDate h sized e))
-      ∙ sym (map-append entry (firingIn ByTicks h e) (firingIn ByDate h e))
+none-fire : (h : List Event) (e : Event) → movesClock e ≡ false → firingIn ByTicks h e ++ firingIn ByDate h e ≡ []
+none-fire h e still =
+    ap₂ (λ (a b : List Placed). a ++ b) (none-due e still (λ o. not (forServer o)) ByTicks h) (none-due e still (λ o. not (forServer o)) ByDate h)
 
 module _ (s : State) (h : List Event) (v : Agrees s h) (f : WellFormed s) (words : List ℕ) where
-  pub lists-due : (c : Call) → firstOf (refusals words s c) ≡ 0
-      → map (listed (s .slots)) (effect s c .fired) ≡ map entry (firingIn ByTicks h (eventOf h c) ++ firingIn ByDate h (eventOf h c))
-  lists-due (layOut n t) e = none-listed h (v .sized) (eventOf h (layOut n t)) refl
-  lists-due (create name) e = none-listed h (v .sized) nothing refl
-  lists-due (ident name) e = none-listed h (v .sized) nothing refl
-  lists-due (cancel id) e = none-listed h (v .sized) (eventOf h (cancel id)) refl
-  lists-due (delete id) e = none-listed h (v .sized) (eventOf h (delete id)) refl
-  lists-due (fireAfter id n r u) e = none-listed h (v .sized) (eventOf h (fireAfter id n r u)) refl
-  lists-due (fireWhen id w r u) e = none-listed h (v .sized) (eventOf h (fireWhen id w r u)) refl
-  lists-due (fireEvery id n r u) e = none-listed h (v .sized) (eventOf h (fireEvery id n r u)) refl
-  lists-due (reset id) e = none-listed h (v .sized) (eventOf h (reset id)) refl
-  lists-due (ticksLeft id) e = none-listed h (v .sized) nothing refl
-  lists-due (tick list) e = both-due h (v .sized) (eventOf h (tick list)) (map (listed (s .slots)) (effect s (tick list) .fired)) (tick-fires s h v f)
-  lists-due (setClock w list) e =
-      both-due h (v .sized) (eventOf h (setClock w list)) (map (listed (s .slots)) (effect s (setClock w list) .fired))
-      (set-clock-fires s h v f (secondsOf w) (seconds-in-range w (accepted-facts words s (setClock w list) e .1)))
-  lists-due getClock e = none-listed h (v .sized) nothing refl
+  abbrev queue : List Start
+  queue = v .chain Queue .0
 
--- a tick and a set clock answer the number of those that fire
-pub counts : (s : State) (h : List Event) (c : Call) → movesClock (eventOf h c) ≡ true → effect s c .answer ≡ length (effect s c .fired) ∷ []
+  -- a call that neither moves the clock nor serves
+  lists-none : (e : Event) → movesClock e ≡ false → servesIn e ≡ 0 → [] ≡ listing h e queue
+  lists-none e still none-handed =
+      ap₂ (λ (l : List Placed) (n : ℕ). map entry l ++ map entryOf (take n queue)) (sym (none-fire h e still)) (sym none-handed)
+
+  shown-front : (l : List Link) (q : List Start) → map (shown (s .slots)) l ≡ map queuedAs q → map (listed (s .slots)) (take 1 l) ≡ map entryOf (take 1 q)
+  shown-front [] [] e = refl
+  shown-front [] (x ∷ q) e = absurd (nil≢cons e)
+  shown-front (w ∷ ws) [] e = absurd (cons≢nil e)
+  shown-front (w ∷ ws) (x ∷ q) e = ap {B = List Fired} (λ (y : Waiting). y .shows ∷ []) (head-eq-of-cons-eq e)
+
+  pub lists-due : (c : Call) → firstOf (refusals words s c) ≡ 0 → map (listed (s .slots)) (effect s c .fired) ≡ listing h (eventOf h c) queue
+  lists-due (layOut n t) e = lists-none (eventOf h (layOut n t)) refl refl
+  lists-due (create name) e = lists-none nothing refl refl
+  lists-due (ident name) e = lists-none nothing refl refl
+  lists-due (cancel id) e = lists-none (eventOf h (cancel id)) refl refl
+  lists-due (delete id) e = lists-none (eventOf h (delete id)) refl refl
+  lists-due (fireAfter id n r u) e = lists-none (eventOf h (fireAfter id n r u)) refl refl
+  lists-due (fireWhen id w r u) e = lists-none (eventOf h (fireWhen id w r u)) refl refl
+  lists-due (fireEvery id n r u) e = lists-none (eventOf h (fireEvery id n r u)) refl refl
+  lists-due (reset id) e = lists-none (eventOf h (reset id)) refl refl
+  lists-due (ticksLeft id) e = lists-none nothing refl refl
+  lists-due (tick list) e = tick-lists s h v f ∙ sym (append-nil (map entry (firingIn ByTicks h oneTick ++ firingIn ByDate h oneTick)))
+  lists-due (setClock w list) e =
+      let moved = clockSetTo (secondsOf w) in
+      set-clock-lists s h v f (secondsOf w) (seconds-in-range w (accepted-facts words s (setClock w list) e .1))
+      ∙ sym (append-nil (map entry (firingIn ByTicks h moved ++ firingIn ByDate h moved)))
+  lists-due getClock e = lists-none nothing refl refl
+  lists-due initiateServer e = lists-none initiates refl refl
+  lists-due (serverFireAfter id n r u) e = lists-none (eventOf h (serverFireAfter id n r u)) refl refl
+  lists-due (serverFireWhen id w r u) e = lists-none (eventOf h (serverFireWhen id w r u)) refl refl
+  lists-due (serve list) e =
+      shown-front (s .queue) queue (v .chain Queue .2)
+      ∙ ap (λ (l : List Placed). map entry l ++ map entryOf (take 1 queue)) (sym (none-fire h servesFront refl))
+
+  -- a tick and a set clock list those that fire, a serve the front of the queue
+  pub many-fire : (c : Call) → firstOf (refusals words s c) ≡ 0 → movesClock (eventOf h c) ≡ true
+      → length (effect s c .fired) ≡ length (firingIn ByTicks h (eventOf h c) ++ firingIn ByDate h (eventOf h c))
+  many-fire c e moving =
+      let all-firing = firingIn ByTicks h (eventOf h c) ++ firingIn ByDate h (eventOf h c) in
+      sym (length-map (effect s c .fired) (listed (s .slots))) ∙ ap length (lists-due c e)
+      ∙ ap (λ (n : ℕ). length (map entry all-firing ++ map entryOf (take n queue))) (none-handed (eventOf h c) moving)
+      ∙ ap length (append-nil (map entry all-firing)) ∙ length-map all-firing entry
+    where
+      none-handed : (e : Event) → movesClock e ≡ true → servesIn e ≡ 0
+      none-handed (laidOutFor t) z = refl
+      none-handed (changes i s) z = refl
+      none-handed (deletes i) z = refl
+      none-handed oneTick z = refl
+      none-handed (clockSetTo d) z = refl
+      none-handed initiates z = refl
+      none-handed servesFront z = clash (sym z)
+      none-handed nothing z = refl
+
+  pub many-served : (c : Call) → firstOf (refusals words s c) ≡ 0 → servesIn (eventOf h c) ≡ 1 → length (effect s c .fired) ≡ length (take 1 queue)
+  many-served c e one =
+      sym (length-map (effect s c .fired) (listed (s .slots))) ∙ ap length (lists-due c e)
+      ∙ ap₂ (λ (l : List Placed) (n : ℕ). length (map entry l ++ map entryOf (take n queue))) (none-fire h (eventOf h c) (still (eventOf h c) one)) one
+      ∙ length-map (take 1 queue) entryOf
+    where
+      still : (e : Event) → servesIn e ≡ 1 → movesClock e ≡ false
+      still (laidOutFor t) z = refl
+      still (changes i s) z = refl
+      still (deletes i) z = refl
+      still oneTick z = absurd (omega arith)
+      still (clockSetTo d) z = absurd (omega arith)
+      still initiates z = refl
+      still servesFront z = refl
+      still nothing z = refl
+
+  pub few-fire : (c : Call) → firstOf (refusals words s c) ≡ 0
+      → length (firingIn ByTicks h (eventOf h c) ++ firingIn ByDate h (eventOf h c)) ≤ length (effect s c .fired)
+  few-fire c e =
+      let all-firing = firingIn ByTicks h (eventOf h c) ++ firingIn ByDate h (eventOf h c) in
+      omega (
+        arith,
+        length-map (effect s c .fired) (listed (s .slots)),
+        ap length (lists-due c e),
+        length-append (map entry all-firing) (map entryOf (take (servesIn (eventOf h c)) queue)),
+        length-map all-firing entry,
+      )
+
+  pub none-fires : (e : Event) → movesClock e ≡ false → firingIn ByTicks h e ++ firingIn ByDate h e ≡ []
+  none-fires e still = none-fire h e still
+
+-- a tick, a set clock and a serve answer how many they list
+pub counts : (s : State) (h : List Event) (c : Call) → (movesClock (eventOf h c) || eqb (servesIn (eventOf h c)) 1) ≡ true
+    → effect s c .answer ≡ length (effect s c .fired) ∷ []
 counts s h (layOut n t) e = clash (sym e)
 counts s h (create name) e = clash (sym e)
 counts s h (ident name) e = clash (sym e)
@@ -159,3 +213,7 @@ counts s h (ticksLeft id) e = clash (sym e)
 counts s h (tick list) e = refl
 counts s h (setClock w list) e = refl
 counts s h getClock e = clash (sym e)
+counts s h initiateServer e = clash (sym e)
+counts s h (serverFireAfter id n r u) e = clash (sym e)
+counts s h (serverFireWhen id w r u) e = clash (sym e)
+counts s h (serve list) e = refl

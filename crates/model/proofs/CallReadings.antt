@@ -1,22 +1,23 @@
 -- Demand 3 read off the calls themselves: a timer that an accepted fire after started for n ticks fires in the nth accepted tick after it, and one
--- that an accepted fire every started in every nth, where no accepted call before ended it; and the clock stands at the second that it was
--- set to and the ticks since. Assumes nothing.
-use mathlib.Core.Path.{_≡_, refl, sym, ap, ap₂, _∙_}
+-- that an accepted fire every started in every nth, where no accepted call before ended it; one that an accepted server fire after started is queued
+-- there; and the clock stands at the second that it was set to and the ticks since. Assumes nothing.
+use mathlib.Core.Path.{_≡_, refl, sym, ap, ap₂, _∙_, subst}
 use Prim.Native.Nat.{ℕ, suc, _+_, _-_, _*_, min}
 use native.Mathlib.Omega.{arith}
-use mathlib.Core.Bool.{Bool, true, false, cond, _||_}
+use mathlib.Core.Bool.{Bool, true, false, cond, not, _&&_, _||_}
 use mathlib.Core.Option.{Option, some}
-use mathlib.Core.List.{List, [], _∷_, _++_, append-assoc}
+use mathlib.Core.List.{List, [], _∷_, _++_, append-assoc, List·Memᴰ}
 use lib.Dec.{eqb}
 use borrow.Author.Tests.{eq-eqb}
 use Rattle.calendar.specs.Calendar.{lastSecond}
 use Rattle.model.specs.Lists.{any, count, All}
-use Rattle.model.specs.Calls.{Call, layOut, create, ident, cancel, delete, fireAfter, fireWhen, fireEvery, reset, ticksLeft, tick, setClock, getClock}
+use Rattle.model.specs.Calls.{Call, layOut, create, ident, cancel, delete, fireAfter, fireWhen, fireEvery, reset, ticksLeft, tick, setClock, getClock, initiateServer, serverFireAfter, serverFireWhen, serve}
+use Rattle.model.specs.Kinds.{ServerAfter}
 use Rattle.model.specs.Outcome.{outcome}
-use Rattle.model.specs.History.{Event, laidOutFor, changes, deletes, oneTick, clockSetTo, nothing, eventOf, eventsOn, isTick, ticks, perSecond, clockAfter, ends}
+use Rattle.model.specs.History.{Start, startOf, Event, laidOutFor, changes, deletes, oneTick, clockSetTo, initiates, servesFront, nothing, eventOf, eventsOn, isTick, ticks, perSecond, clockAfter, ends, isQueued, Queues, IsQueue}
 use Rattle.model.specs.Demand.{after, acceptedIn, eventsAfter}
-use Rattle.model.proofs.ListLaws.{cases, clash, count-append}
-use Rattle.model.proofs.Readings.{Lists, tick-lists, multiple-lists}
+use Rattle.model.proofs.ListLaws.{cases, clash, all, keep-all, count-append}
+use Rattle.model.proofs.Readings.{Lists, tick-lists, multiple-lists, startAt, queued-at-nth-tick, goes-to-back}
 
 -- ---- the words of a list of accepted calls
 
@@ -35,6 +36,10 @@ isTickCall (ticksLeft i) = false
 isTickCall (tick list) = true
 isTickCall (setClock w list) = false
 isTickCall getClock = false
+isTickCall initiateServer = false
+isTickCall (serverFireAfter i n r u) = false
+isTickCall (serverFireWhen i w r u) = false
+isTickCall (serve list) = false
 
 abbrev pub endsTimer : ℕ → Call → Bool
 endsTimer id (layOut n t) = true
@@ -50,6 +55,10 @@ endsTimer id (ticksLeft i) = false
 endsTimer id (tick list) = false
 endsTimer id (setClock w list) = false
 endsTimer id getClock = false
+endsTimer id initiateServer = false
+endsTimer id (serverFireAfter i n r u) = eqb i id
+endsTimer id (serverFireWhen i w r u) = eqb i id
+endsTimer id (serve list) = false
 
 tick-is : (h : List Event) (c : Call) → isTick (eventOf h c) ≡ isTickCall c
 tick-is h (layOut n t) = refl
@@ -65,6 +74,10 @@ tick-is h (ticksLeft i) = refl
 tick-is h (tick list) = refl
 tick-is h (setClock w list) = refl
 tick-is h getClock = refl
+tick-is h initiateServer = refl
+tick-is h (serverFireAfter i n r u) = refl
+tick-is h (serverFireWhen i w r u) = refl
+tick-is h (serve list) = refl
 
 ends-is : (id : ℕ) (h : List Event) (c : Call) → ends id (eventOf h c) ≡ endsTimer id c
 ends-is id h (layOut n t) = refl
@@ -80,6 +93,10 @@ ends-is id h (ticksLeft i) = refl
 ends-is id h (tick list) = refl
 ends-is id h (setClock w list) = refl
 ends-is id h getClock = refl
+ends-is id h initiateServer = refl
+ends-is id h (serverFireAfter i n r u) = refl
+ends-is id h (serverFireWhen i w r u) = refl
+ends-is id h (serve list) = refl
 
 -- the events of more calls, before which there were the events h
 record More (id : ℕ) (h : List Event) (cs : List Call) : Type 0 where
@@ -178,6 +195,29 @@ module _ (w : List ℕ) (n t : ℕ) (ok : outcome w (layOut n t) .status ≡ 0) 
       multiple-lists w n t ok (whole w n t before start later) list es (m .events) id id k r u times ticked
       (events-since w n t before start later started ∙ m .are) (m .as-ended ∙ quiet) (ap suc (m .as-many) ∙ multiple)
 
+-- ---- the server
+
+-- A timer started for n ticks as a server timer is queued at the nth accepted tick after that start: it is among those that come to the back.
+module _ (w : List ℕ) (n t : ℕ) (ok : outcome w (layOut n t) .status ≡ 0) (before later : List Call) (id k r u : ℕ) (list : List ℕ) where
+  pub nth-tick-queues : let start = serverFireAfter id k r u in
+      outcome (atStart w n t before start later) start .status ≡ 0
+      → any (endsTimer id) (since w n t before start later) ≡ false → suc (count isTickCall (since w n t before start later)) ≡ k
+      → let es = eventsAfter w (layOut n t ∷ whole w n t before start later) in
+      (queue new : List Start) → IsQueue es queue → Queues es oneTick new
+      → IsQueue (oneTick ∷ es) (queue ++ new) × List·Memᴰ (startOf id ServerAfter k r u) new
+  nth-tick-queues started quiet nth queue new is queues =
+      let start = serverFireAfter id k r u in
+      let before-it = eventsAfter w (layOut n t ∷ before) in
+      let s = startOf id ServerAfter k r u in
+      let m = more id (eventOf before-it start ∷ before-it) (since w n t before start later) in
+      let are = events-since w n t before start later started ∙ m .are in
+      let now : isQueued oneTick (startAt before-it id s (m .events)) ≡ true =
+      queued-at-nth-tick before-it (m .events) id id k r u (omega arith) oneTick
+      ∙ ap₂ (λ (a b : Bool). not a && b) (m .as-ended ∙ quiet) (eq-eqb (suc (ticks (m .events))) k (omega (arith, nth, m .as-many))) in (
+        (queue, new, is, queues, ap (λ (q : List Start). q ++ new) (sym (keep-all (λ x. true) queue (all (λ x. refl) queue)))),
+        goes-to-back before-it (m .events) id s oneTick new now (subst (λ (h : List Event). Queues h oneTick new) are queues),
+      )
+
 -- ---- the clock
 
 -- neither a lay out nor a set clock
@@ -187,6 +227,8 @@ leavesClock (changes i s) = true
 leavesClock (deletes i) = true
 leavesClock oneTick = true
 leavesClock (clockSetTo d) = false
+leavesClock initiates = true
+leavesClock servesFront = true
 leavesClock nothing = true
 
 -- It stands, counted in ticks, at the seconds given in the latest set clock times T plus the accepted ticks since that one, up to its end.
@@ -203,4 +245,6 @@ clock-runs d Q P h = from 0 Q h ∙ ap {B = Option ℕ} (λ (k : ℕ). some (min
     from k (oneTick ∷ Q) h =
         from (suc k) Q (h .1) ∙ ap {B = Option ℕ} (λ (m : ℕ). some (min m (suc lastSecond * perSecond P - 1))) (omega arith)
     from k (clockSetTo e ∷ Q) h = clash (sym (h .0))
+    from k (initiates ∷ Q) h = from k Q (h .1)
+    from k (servesFront ∷ Q) h = from k Q (h .1)
     from k (nothing ∷ Q) h = from k Q (h .1)

@@ -9,7 +9,7 @@ use Rattle.calendar.specs.declared.Instant.{Instant}
 use Rattle.calendar.specs.declared.Instant.the-variants.{Second, NotValid}
 use Rattle.calendar.specs.Calendar.{monthsOf, years, valid, secondsOf, instantOf}
 use Rattle.model.specs.Calls.{Call, layOut, create, cancel, fireAfter, fireWhen, reset, ticksLeft, tick, setClock}
-use Rattle.model.specs.Sound.{headerSound, slotSound, chainSound, ticksSound, datesSound, sound}
+use Rattle.model.specs.Sound.{headerSound, slotSound, chainSound, ticksSound, datesSound, queueSound, sound}
 use Rattle.model.specs.Outcome.{statusOn, outcome}
 use Rattle.model.specs.Demand.{after}
 
@@ -107,5 +107,5 @@ starredCases =
     ∷ []
 
 pub starred : map computed starredCases ≡ starredCases
-unfolding monthsOf years valid secondsOf headerSound slotSound chainSound ticksSound datesSound sound statusOn outcome
+unfolding monthsOf years valid secondsOf headerSound slotSound chainSound ticksSound datesSound queueSound sound statusOn outcome
 starred = refl

@@ -8,8 +8,7 @@ use mathlib.Core.Option.{Option, some}
 use mathlib.Core.List.{List, [], _∷_, _++_, map, append-nil}
 use lib.Dec.{eqb}
 use Rattle.model.specs.Lists.{keep, place, All}
-use Rattle.model.specs.Kinds.{Chain, ByTicks, ByDate, Mode, After, When, Every, chainFor, sameChain}
-use Rattle.model.specs.Directives.{intervalIn}
+use Rattle.model.specs.Kinds.{Chain, ByTicks, ByDate, Queue, Mode, After, When, Every, ServerAfter, ServerWhen, chainFor, sameChain, intervalIn}
 use Rattle.model.specs.History.{Start, Event, changes, isTick, movesClock, Placed, starts, ends, remaining, Waiting, waiting}
 use Rattle.model.proofs.ListLaws.{all, keep-on, keep-none}
 use Rattle.model.proofs.Order.{orderOn}
@@ -20,15 +19,18 @@ use Rattle.model.proofs.HistoryLaws.{Sized, dueNow, lowered, renewed, c
 abbrev pub bringsDue : Chain → Event → Bool
 bringsDue ByTicks e = isTick e
 bringsDue ByDate e = movesClock e
+bringsDue Queue e = false
 
 lowered-same : (k : Chain) (e : Event) → bringsDue k e ≡ false → (w : Waiting) → lowered k e w ≡ w
 lowered-same ByTicks e calm w =
     ap {B = Waiting} (λ (n : ℕ). record { shows = w .shows; mode = w .mode; interval = w .interval; wait = n }) (rw calm (omega arith))
 lowered-same ByDate e calm w = refl
+lowered-same Queue e calm w = refl
 
 pub not-due : (k : Chain) (e : Event) → bringsDue k e ≡ false → (h : List Event) (w : Waiting) → dueNow k e h w ≡ false
 not-due ByTicks e calm h w = rw calm
 not-due ByDate e calm h w = rw calm
+not-due Queue e calm h w = refl
 
 pub map-same : (f : Waiting → Waiting) → ((w : Waiting) → f w ≡ w) → (l : List Waiting) → map f l ≡ l
 map-same f h [] = refl
@@ -80,6 +82,8 @@ amount-left : (m : Mode) (n : ℕ) → remaining m n 0 ≡ n
 amount-left After n = omega arith
 amount-left When d = refl
 amount-left Every n = omega (arith, zero-mod n)
+amount-left ServerAfter n = omega arith
+amount-left ServerWhen d = refl
 
 module _ (k : Chain) (h : List Event) (sized : All Sized (starts h)) (id : ℕ) (s : Start) where
   abbrev e : Event
@@ -91,6 +95,7 @@ module _ (k : Chain) (h : List Event) (sized : All Sized (starts h)) (id : ℕ) 
   calm : (k : Chain) → bringsDue k e ≡ false
   calm ByTicks = refl
   calm ByDate = refl
+  calm Queue = refl
 
   pub chain-start : sameChain k (chainFor (s .mode)) ≡ true
       → chainFrom k (changes id (some s) ∷ h) ≡ place (λ w. w .wait) (begins s) (keep (λ w. not (eqb id (w .shows .id))) (chainFrom k h))
@@ -101,6 +106,6 @@ module _ (k : Chain) (h : List Event) (sized : All Sized (starts h)) (id : ℕ) 
       ∙ ap (λ (n : ℕ). place (λ w. w .wait)
       (record { shows = begins s .shows; mode = begins s .mode; interval = begins s .interval; wait = n }) others) (amount-left (s .mode) (s .amount))
 
-  pub chain-elsewhere : sameChain k (chainFor (s .mode)) ≡ false
+  chain-elsewhere : sameChain k (chainFor (s .mode)) ≡ false
       → chainFrom k (changes id (some s) ∷ h) ≡ keep (λ w. not (eqb id (w .shows .id))) (chainFrom k h)
   chain-elsewhere away = chain-calm k h sized e (calm k) (ap (λ (b : Bool). map waiting (cond b (x ∷ []) [])) away)

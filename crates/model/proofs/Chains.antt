@@ -8,7 +8,7 @@ use lib.ListN.{length, length-append}
 use lib.Dec.{eqb}
 use borrow.Author.Tests.{eqb-true, eqb-false, eq-eqb, ne-eqb, not-true}
 use Rattle.model.specs.Lists.{All}
-use Rattle.model.specs.Kinds.{Chain, ByTicks, ByDate, kindAt, sameChain, waitsIn}
+use Rattle.model.specs.Kinds.{Chain, ByTicks, ByDate, Queue, kindAt, sameChain, waitsIn}
 use Rattle.model.specs.State.{Link, State, chainOf, slotAt, without}
 use Rattle.model.specs.Directives.{closer}
 use Rattle.model.specs.Words.{sumOf}
@@ -98,7 +98,7 @@ module _ (s : State) (h : Chained s) where
   once k i = omega (arith, h .meets k i, once-only (waitsIn k (slotAt (s .slots) i .kind)))
 
   pub once-all : (i : ℕ) → sumOf (λ _ c. timesIn c i) s ≤ 1
-  once-all i = once-apart ByTicks ByDate refl i
+  once-all i = omega (arith, once-apart ByTicks ByDate refl i, once-apart ByTicks Queue refl i, once-apart ByDate Queue refl i)
 
   pub met-in-range : (k : Chain) (i : ℕ) → 0 < timesIn (chainOf k s) i → (0 < i) × (i ≤ length (s .slots))
   met-in-range k i p = in-range (s .slots) i (in-not-free k (slotAt (s .slots) i .kind) (omega (arith, p, h .meets k i)))
@@ -116,5 +116,5 @@ module _ (s : State) (h : Chained s) where
     length-append (s .ticking) (s .dated),
     no-more-than-slots (length (s .slots)) (s .ticking ++ s .dated)
         (all-append (InSlots (length (s .slots))) (s .ticking) (s .dated) (in-slots ByTicks) (in-slots ByDate))
-        (λ i. omega (arith, count-append (λ w. eqb (w .slot) i) (s .ticking) (s .dated), once-all i)),
+        (λ i. omega (arith, count-append (λ w. eqb (w .slot) i) (s .ticking) (s .dated), once-apart ByTicks ByDate refl i)),
   )

@@ -11,7 +11,7 @@ use borrow.Author.Tests.{leb-true, leb-false, le-leb, lt-leb, ltb-true, ltb-fals
 use Rattle.model.specs.State.{Clock}
 use Rattle.calendar.specs.Calendar.{lastSecond}
 use Rattle.model.specs.Directives.{clockStep}
-use Rattle.model.specs.History.{Event, laidOutFor, changes, deletes, oneTick, clockSetTo, nothing, perSecond, clockAfter}
+use Rattle.model.specs.History.{Event, laidOutFor, changes, deletes, oneTick, clockSetTo, initiates, servesFront, nothing, perSecond, clockAfter}
 use Rattle.model.proofs.ListLaws.{cases}
 
 -- one tick later, up to the last tick of the last second
@@ -26,6 +26,8 @@ one-later n (changes i s ∷ h) = one-later n h
 one-later n (deletes i ∷ h) = one-later n h
 one-later n (oneTick ∷ h) = one-later (suc n) h
 one-later n (clockSetTo d ∷ h) = ap {B = Option ℕ} some (omega arith)
+one-later n (initiates ∷ h) = one-later n h
+one-later n (servesFront ∷ h) = one-later n h
 one-later n (nothing ∷ h) = one-later n h
 
 -- the clock of a table, counted in ticks

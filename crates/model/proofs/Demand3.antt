@@ -1,33 +1,34 @@
 -- Demand 3, for every slice, every accepted lay out on it, and every list of calls. By induction on the list: the table stays sound, and
 -- the state that it holds agrees with the events of the accepted calls. Assumes nothing.
 use mathlib.Core.Path.{_≡_, refl, sym, ap, ap₂, _∙_, subst}
-use Prim.Native.Nat.{ℕ}
+use Prim.Native.Nat.{ℕ, suc, _+_}
 use native.Mathlib.Omega.{arith}
-use mathlib.Core.Bool.{Bool, true, false}
+use mathlib.Core.Bool.{Bool, true, false, _||_}
 use mathlib.Core.Option.{some}
 use mathlib.Core.List.{List, [], _∷_, _++_, map, reverse}
-use lib.ListN.{length, length-map}
+use lib.ListN.{length, take}
 use lib.Dec.{eqb}
 use borrow.Author.Tests.{eqb-true, eqb-false, eq-eqb}
-use Rattle.model.specs.Lists.{keep}
-use Rattle.model.specs.Calls.{Call, layOut, reset, lentTo}
-use Rattle.model.specs.Kinds.{Chain, ByTicks, ByDate, chainFor}
-use Rattle.model.specs.State.{State, names, listed}
+use Rattle.model.specs.Lists.{keep, any, InOrder}
+use Rattle.model.specs.Calls.{Call, layOut, reset, ticksLeft, serve, lentTo}
+use Rattle.model.specs.Kinds.{Chain, ByTicks, ByDate, Queue, chainFor}
+use Rattle.model.specs.State.{State, waitAt, indexOf, names}
 use Rattle.model.specs.Directives.{laidOut, effect}
 use Rattle.model.specs.Words.{first, along, links, read, slotCount, previousOf}
 use Rattle.model.specs.Sound.{sound}
 use Rattle.model.specs.Outcome.{Outcome, statusOn, outcome}
-use Rattle.model.specs.History.{Start, Event, laidOutFor, changes, eventOf, eventsOn, starts, fires, inChain, ticksLeftOrDate, entry}
-use Rattle.model.specs.Demand.{after, acceptedIn, shown, Standing, Begins, Lists, Answers, eventsAfter, Demand3}
-use Rattle.model.proofs.ListLaws.{cases}
+use Rattle.model.specs.History.{Start, Event, laidOutFor, changes, lastStart, eventOf, eventsOn, movesClock, Placed, starts, ends, fires, inChain, ticksLeftOrDate, waiting, entryOf, entry, servesIn, IsQueue, serves, aheadAfter, takenOff}
+use Rattle.model.specs.Demand.{after, acceptedIn, shown, Shows, Standing, Begins, Lists, Answers, HandsOut, eventsAfter, Demand3}
+use Rattle.model.proofs.ListLaws.{cases, or-left, or-right}
 use Rattle.model.proofs.Order.{order, order-in-order}
 use Rattle.model.proofs.Chains.{once-all}
 use Rattle.model.proofs.ReadBack.{slots-length, by-previous}
 use Rattle.model.proofs.SoundHolds.{sound-holds, sound-well-formed}
 use Rattle.model.proofs.KeptWellFormed.{bound}
 use Rattle.model.proofs.HistoryLaws.{waitingIn, chainFrom, firingIn, shown-order}
+use Rattle.model.proofs.QueueLaws.{one-queue, place-after}
 use Rattle.model.proofs.Simulation.{Agrees, agrees-laid}
-use Rattle.model.proofs.Agreement.{reset-last, agrees-step, lists-due, none-due, counts}
+use Rattle.model.proofs.Agreement.{reset-last, agrees-step, lists-due, many-fire, many-served, few-fire, none-fires, counts}
 use Rattle.model.proofs.OutcomeLaws.{status-is, outcome-accepted, outcome-refused, outcome-status}
 use Rattle.model.proofs.CallTables.{laid-table, laid-sound, laid-read, effect-sound, table-left, state-left}
 use Rattle.model.proofs.Lasting.{none-laid, cancels-on, lasts-on, anew-on}
@@ -46,21 +47,28 @@ module _ (t : List ℕ) (h : List Event) (g : SoundAndAgreeing t h) where
       let hold = sound-holds t (g .is-sound) in
       record {
         is-sound = g .is-sound;
-        by-next = λ k. (order ticksLeftOrDate (waitingIn k h), order-in-order ticksLeftOrDate (waitingIn k h), each k ∙ sym (shown-order (waitingIn k h)));
+        by-next = each;
         by-previous = back;
         once = once-all (read t) (hold .chained);
         rate = g .agrees .per;
         clock = g .agrees .clock;
+        initiated = g .agrees .initiated;
       }
     where
-      each : (k : Chain) → map (shown (read t .slots)) (links k t) ≡ chainFrom k h
-      each ByTicks = g .agrees .chain ByTicks
-      each ByDate = g .agrees .chain ByDate
+      waiting-ones : (k : Chain) → map (shown (read t .slots)) (links k t) ≡ chainFrom k h
+          → (l : List Placed) × InOrder ticksLeftOrDate (waitingIn k h) l × (map (shown (read t .slots)) (links k t) ≡ map waiting l)
+      waiting-ones k is = let l = waitingIn k h in (order ticksLeftOrDate l, order-in-order ticksLeftOrDate l, is ∙ sym (shown-order l))
+
+      each : (k : Chain) → Shows k h (map (shown (read t .slots)) (links k t))
+      each ByTicks = waiting-ones ByTicks (g .agrees .chain ByTicks)
+      each ByDate = waiting-ones ByDate (g .agrees .chain ByDate)
+      each Queue = g .agrees .chain Queue
 
       back : (k : Chain) → along (previousOf t) (slotCount t) (first (reverse (links k t)))
           ≡ map (λ w. w .slot) (reverse (links k t))
       back ByTicks = by-previous t (read t) (sound-holds t (g .is-sound)) ByTicks
       back ByDate = by-previous t (read t) (sound-holds t (g .is-sound)) ByDate
+      back Queue = by-previous t (read t) (sound-holds t (g .is-sound)) Queue
 
 -- ---- one call more
 
@@ -76,38 +84,53 @@ module _ (t : List ℕ) (h : List Event) (g : SoundAndAgreeing t h) (c : Call) w
   lists-now z =
       let st = sym (status-is t c) ∙ z in
       let f = sound-well-formed t (g .is-sound) in
-      let l = firingIn ByTicks h (eventOf h c) in
-      let m = firingIn ByDate h (eventOf h c) in
+      let e = eventOf h c in
+      let l = firingIn ByTicks h e in
+      let m = firingIn ByDate h e in
+      let q = g .agrees .chain Queue in
       let o = outcome-accepted t c z in
-      let due = lists-due (read t) h (g .agrees) f t c st in
-      let many : length (l ++ m) ≡ length (effect (read t) c .fired) =
-      sym (length-map (l ++ m) entry) ∙ sym (ap length due) ∙ length-map (effect (read t) c .fired) (listed (read t .slots)) in
+      let answer : (n : ℕ) → (movesClock e || eqb (servesIn e) 1) ≡ true → length (effect (read t) c .fired) ≡ n → outcome t c .answer ≡ n ∷ [] =
+      λ n some many. ap (λ (x : Outcome). x .answer) o ∙ counts (read t) h c some ∙ ap {B = List ℕ} (λ (n : ℕ). n ∷ []) many in
       record {
         ticking = l;
         dated = m;
-        ticking-order = order-in-order ticksLeftOrDate (keep (inChain ByTicks) (keep (fires (eventOf h c)) (starts h)));
-        dated-order = order-in-order ticksLeftOrDate (keep (inChain ByDate) (keep (fires (eventOf h c)) (starts h)));
-        entries = subst (Begins (outcome t c .list) (lentTo c)) due (list-begins t (g .is-sound) c z);
-        counted = λ moving. ap (λ (x : Outcome). x .answer) o ∙ counts (read t) h c moving ∙ ap {B = List ℕ} (λ (n : ℕ). n ∷ []) (sym many);
-        fires-none = λ still. ap₂ (λ a b. a ++ b) (none-due h (g .agrees .sized) (eventOf h c) ByTicks still) (none-due h (g .agrees .sized) (eventOf h c) ByDate still);
-        few = omega (arith, many, bound (read t) f c, slots-length t);
+        ticking-order = order-in-order ticksLeftOrDate (keep (inChain ByTicks) (keep (fires e) (starts h)));
+        dated-order = order-in-order ticksLeftOrDate (keep (inChain ByDate) (keep (fires e) (starts h)));
+        queue = q .0;
+        is-queue = q .1;
+        entries = subst (Begins (outcome t c .list) (lentTo c)) (lists-due (read t) h (g .agrees) f t c st) (list-begins t (g .is-sound) c z);
+        counted = λ moving. answer (length (l ++ m)) (or-left (movesClock e) (eqb (servesIn e) 1) moving) (many-fire (read t) h (g .agrees) f t c st moving);
+        served = λ list is.
+            let one : servesIn e ≡ 1 = ap (λ (d : Call). servesIn (eventOf h d)) is in
+            answer (length (take 1 (q .0))) (or-right (movesClock e) (eqb (servesIn e) 1) (eq-eqb (servesIn e) 1 one))
+            (many-served (read t) h (g .agrees) f t c st one);
+        fires-none = λ still. none-fires (read t) h (g .agrees) f t e still;
+        few = omega (arith, few-fire (read t) h (g .agrees) f t c st, bound (read t) f c, slots-length t);
       }
 
   restarts-now : statusOn t c ≡ 0 → (id : ℕ) → c ≡ reset id
-      → (s : Start) × (eventOf h c ≡ changes id (some s)) × (s .id ≡ id) × (chainFor (s .mode) ≡ ByTicks)
+      → (s : Start) × (eventOf h c ≡ changes id (some s)) × (s .id ≡ id) × (chainFor (s .mode) ≡ ByTicks) × (lastStart id h ≡ some s)
   restarts-now e id is =
-      subst (λ (d : Call). statusOn t d ≡ 0 → (s : Start) × (eventOf h d ≡ changes id (some s)) × (s .id ≡ id) × (chainFor (s .mode) ≡ ByTicks)) (sym is)
+      subst (λ (d : Call). statusOn t d ≡ 0
+      → (s : Start) × (eventOf h d ≡ changes id (some s)) × (s .id ≡ id) × (chainFor (s .mode) ≡ ByTicks) × (lastStart id h ≡ some s)) (sym is)
       (λ z.
       let last = reset-last (read t) h (g .agrees) (sound-well-formed t (g .is-sound)) t id (sym (status-is t (reset id)) ∙ z) in
-      (_, ap (changes id) (last .2), refl, last .0)) e
+      (_, ap (changes id) (last .2), refl, last .0, last .2)) e
+
+  left-now : statusOn t c ≡ 0 → (id : ℕ) → c ≡ ticksLeft id → outcome t c .answer ≡ waitAt (indexOf id) (links ByTicks t) ∷ []
+  left-now e id is =
+      subst (λ (d : Call). statusOn t d ≡ 0 → outcome t d .answer ≡ waitAt (indexOf id) (links ByTicks t) ∷ []) (sym is)
+      (λ z. ap (λ (x : Outcome). x .answer) (outcome-accepted t (ticksLeft id) z)) e
 
   answers-now : Answers t h c (eventOf h c)
   answers-now = record {
     lists = λ e. lists-now (sym (outcome-status t c) ∙ e);
     lent-tick = λ list is. ap lentTo is;
     lent-set = λ w list is. ap lentTo is;
+    lent-serve = λ list is. ap lentTo is;
     cancels = λ id is e. cancels-on t (g .is-sound) id c is (sym (outcome-status t c) ∙ e);
     restarts = λ id is e. restarts-now (sym (outcome-status t c) ∙ e) id is;
+    left = λ id is e. left-now (sym (outcome-status t c) ∙ e) id is;
     lasts = λ e id. lasts-on t (g .is-sound) c (sym (outcome-status t c) ∙ e) id;
     anew = λ name is e. anew-on t (g .is-sound) name c is (sym (outcome-status t c) ∙ e);
     size = table-size t (g .is-sound) c;
@@ -150,6 +173,38 @@ module _ (w : List ℕ) (n t : ℕ) (e : outcome w (layOut n t) .status ≡ 0) w
   after-calls : (xs : List Call) → SoundAndAgreeing (after w (layOut n t ∷ xs)) (eventsAfter w (layOut n t ∷ xs))
   after-calls xs = rw (eq-eqb (outcome w (layOut n t) .status) 0 e) (run xs (outcome w (layOut n t) .table) (laidOutFor t ∷ []) begins)
 
+-- a timer that has come to the front of the queue is handed out by the next serve
+module _ (w : List ℕ) (n t : ℕ) (ok : outcome w (layOut n t) .status ≡ 0) (xs ys : List Call) (list : List ℕ) (ahead behind : List Start) (s : Start)
+    (is : IsQueue (eventsAfter w (layOut n t ∷ xs)) (ahead ++ (s ∷ behind))) (more : List Event)
+    (later : eventsAfter w (layOut n t ∷ xs ++ ys) ≡ more ++ eventsAfter w (layOut n t ∷ xs)) (lasts : any (ends (s .id)) more ≡ false)
+    (turn : suc (serves more) + takenOff more ahead ≡ suc (length ahead)) where
+  abbrev u : List ℕ
+  u = after w (layOut n t ∷ xs ++ ys)
+
+  comes-first : (b : List Start) × IsQueue (eventsAfter w (layOut n t ∷ xs ++ ys)) (s ∷ b)
+  comes-first =
+      let at = place-after (eventsAfter w (layOut n t ∷ xs)) more ahead behind s is lasts (omega arith) in
+      let none : aheadAfter more ahead ≡ [] = empty (aheadAfter more ahead) (omega (arith, at .place)) in (
+        at .behind,
+        subst (λ (h : List Event). IsQueue h (s ∷ at .behind)) (sym later)
+            (subst (λ (l : List Start). IsQueue (more ++ eventsAfter w (layOut n t ∷ xs)) (l ++ (s ∷ at .behind))) none (at .is-queue)),
+      )
+    where
+      empty : (l : List Start) → length l ≡ 0 → l ≡ []
+      empty [] e = refl
+      empty (x ∷ l) e = absurd (omega arith)
+
+  handed-out : HandsOut u list s
+  handed-out accepted =
+      let h = eventsAfter w (layOut n t ∷ xs ++ ys) in
+      let first = comes-first in
+      let a = answers-now u h (after-calls w n t ok (xs ++ ys)) (serve list) .lists accepted in
+      let same : a .queue ≡ s ∷ first .0 = one-queue h (a .queue) (s ∷ first .0) (a .is-queue) (first .1) in (
+        a .served list refl ∙ ap (λ (q : List Start). length (take 1 q) ∷ []) same,
+        subst (Begins (outcome u (serve list) .list) list)
+            (ap₂ (λ (l : List Placed) (q : List Start). map entry l ++ map entryOf (take 1 q)) (a .fires-none refl) same) (a .entries),
+      )
+
 pub demand3 : Demand3
 demand3 w n t e cs =
     let now : List Call → List ℕ = λ xs. after w (layOut n t ∷ xs) in
@@ -158,4 +213,5 @@ demand3 w n t e cs =
       empty = λ id. ap (λ (s : State). names s id) (laid-state w n t e) ∙ none-laid n t id;
       standing = λ xs ys _. standing-now (now xs) (es xs) (after-calls w n t e xs);
       answers = λ xs ys c _. answers-now (now xs) (es xs) (after-calls w n t e xs) c;
+      in-turn = λ xs ys zs list _ ahead behind s is more later lasts turn. handed-out w n t e xs ys list ahead behind s is more later lasts turn;
     }

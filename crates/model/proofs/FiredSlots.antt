@@ -14,7 +14,7 @@ use Rattle.model.proofs.ListLaws.{cases, clash, any-some}
 use Rattle.model.proofs.Slots.{at-other}
 use Rattle.model.proofs.WellFormed.{timesIn}
 
-at-own : (sl : List Slot) (i : ℕ) → slotAt (putAt sl i (fired (slotAt sl i))) i ≡ fired (slotAt sl i)
+pub at-own : (sl : List Slot) (i : ℕ) → slotAt (putAt sl i (fired (slotAt sl i))) i ≡ fired (slotAt sl i)
 at-own sl zero = refl
 at-own [] (suc i) = refl
 at-own (y ∷ ys) (suc zero) = refl

@@ -10,12 +10,11 @@ use mathlib.Core.List.{List, [], _∷_, _++_, map, map-map, map-append, append-a
 use lib.Dec.{leb, eqb}
 use borrow.Author.Tests.{leb-true, leb-false, le-leb, lt-leb, eqb-true, eqb-false, eq-eqb, ne-eqb, not-true}
 use Rattle.model.specs.Lists.{keep, All}
-use Rattle.model.specs.Kinds.{Chain, ByTicks, ByDate, Mode, After, When, Every, chainFor, isPeriodic, sameChain}
-use Rattle.model.specs.Directives.{intervalIn}
-use Rattle.model.specs.History.{Start, Event, startIn, isTick, ticks, past, movesClock, Placed, withEvent, placed, starts, ends, wasEnded, dueIn, isDue, wasDueIn, wasDue, waits, fires, goesBack, inTurn, inChain, remaining, ticksLeftOrDate, entry, Waiting, waiting}
+use Rattle.model.specs.Kinds.{Chain, ByTicks, ByDate, Queue, Mode, After, When, Every, ServerAfter, ServerWhen, chainFor, isPeriodic, sameChain, forServer, intervalIn}
+use Rattle.model.specs.History.{Start, Event, laidOutFor, changes, deletes, oneTick, clockSetTo, initiates, servesFront, nothing, startIn, isTick, ticks, past, movesClock, Placed, withEvent, placed, starts, ends, wasEnded, dueIn, isDue, wasDueIn, wasDue, waits, comesDue, goesBack, inTurn, inChain, remaining, ticksLeftOrDate, Waiting, waiting}
 use Rattle.model.proofs.ListLaws.{cases, clash, both, all, all-map, all-append, all-keep, all-passed, all-zip, all-mapped, keep-append, keep-and, keep-on, keep-none, keep-map, map-on}
 use Rattle.model.proofs.Order.{order, orderOn, keep-order, orderOn-append, orderOn-flat, map-orderOn, map-order}
-use Rattle.model.proofs.KindLaws.{periodic}
+use Rattle.model.proofs.KindLaws.{periodic, not-queue}
 use Rattle.model.proofs.Shapes.{Some}
 
 -- ---- each start
@@ -97,11 +96,13 @@ waits-all k h sized =
 abbrev pub dueNow : Chain → Event → List Event → Waiting → Bool
 dueNow ByTicks e h w = isTick e && leb (w .wait) 1
 dueNow ByDate e h w = movesClock e && past (w .wait) (e ∷ h)
+dueNow Queue e h w = false
 
 -- it comes nearer by the tick e
 abbrev pub lowered : Chain → Event → Waiting → Waiting
 lowered ByTicks e w = record { shows = w .shows; mode = w .mode; interval = w .interval; wait = w .wait - cond (isTick e) 1 0 }
 lowered ByDate e w = w
+lowered Queue e w = w
 
 -- it goes back
 abbrev pub renewed : Waiting → Waiting
@@ -111,6 +112,7 @@ renewed w = record { shows = w .shows; mode = w .mode; interval = w .interval; w
 abbrev Left : Chain → Waiting → Type 0
 Left ByTicks w = 1 ≤ w .wait
 Left ByDate w = periodic (w .mode) ≡ false
+Left Queue w = periodic (w .mode) ≡ false
 
 -- the nth tick: fewer have passed while it was not due, and it is next where one is left
 pub fewer : (s : Start) (before after : List Event)
@@ -175,6 +177,8 @@ abbrev Passed : Mode → ℕ → ℕ → Type 0
 Passed After n m = m < n
 Passed When d m = Unit {0}
 Passed Every n m = 0 < n
+Passed ServerAfter n m = m < n
+Passed ServerWhen d m = Unit {0}
 
 module _ (h : List Event) (g : Placed) where
   passed : (k : Chain) → Waits k h g → Passed (g .begun .mode) (g .begun .amount) (ticks (g .after))
@@ -194,6 +198,13 @@ module _ (h : List Event) (g : Placed) where
           (not-due (isPeriodic (g .begun .mode)) (wasEnded g) (wasDue g) (rw m) (v .is-waiting))
       go When m = tt
       go Every m = some-ticks Every m
+      go ServerAfter m = fewer (g .begun) (g .before) (g .after) (λ x l. rw m) (some-ticks ServerAfter m)
+          (not-due (isPeriodic (g .begun .mode)) (wasEnded g) (wasDue g) (rw m) (v .is-waiting))
+      go ServerWhen m = tt
+
+  -- no start waits in the queue
+  not-there : {C : Type 0} → Waits Queue h g → C
+  not-there v = clash (sym (v .in-chain) ∙ not-queue (g .begun .mode))
 
   some-left : (k : Chain) → Waits k h g → Left k (waiting g)
   some-left ByTicks v = go (g .begun .mode) (v .in-chain) (passed ByTicks v)
@@ -203,12 +214,17 @@ module _ (h : List Event) (g : Placed) where
       go After f p = omega arith
       go When f p = clash (sym f)
       go Every f p = omega (arith, into (g .begun .amount) (ticks (g .after)) p)
+      go ServerAfter f p = omega arith
+      go ServerWhen f p = clash (sym f)
   some-left ByDate v = go (g .begun .mode) (v .in-chain)
     where
       go : (m : Mode) → sameChain ByDate (chainFor m) ≡ true → isPeriodic m ≡ false
       go After f = clash (sym f)
       go When f = refl
       go Every f = clash (sym f)
+      go ServerAfter f = clash (sym f)
+      go ServerWhen f = refl
+  some-left Queue v = not-there v
 
   module _ (e : Event) where
     due-now : (k : Chain) → Waits k h g → isDue e g ≡ dueNow k e h (waiting g)
@@ -219,6 +235,8 @@ module _ (h : List Event) (g : Placed) where
         go After f p = ap (λ (b : Bool). isTick e && b) (nth-due (g .begun .amount) (ticks (g .after)) p)
         go When f p = clash (sym f)
         go Every f p = ap (λ (b : Bool). isTick e && b) (every-due (g .begun .amount) (ticks (g .after)) p)
+        go ServerAfter f p = ap (λ (b : Bool). isTick e && b) (nth-due (g .begun .amount) (ticks (g .after)) p)
+        go ServerWhen f p = clash (sym f)
     due-now ByDate v = go (g .begun .mode) (v .in-chain)
       where
         go : (m : Mode) → sameChain ByDate (chainFor m) ≡ true
@@ -226,6 +244,9 @@ module _ (h : List Event) (g : Placed) where
         go After f = clash (sym f)
         go When f = ap (λ (l : List Event). movesClock e && past (g .begun .amount) (e ∷ l)) (v .whole)
         go Every f = clash (sym f)
+        go ServerAfter f = clash (sym f)
+        go ServerWhen f = ap (λ (l : List Event). movesClock e && past (g .begun .amount) (e ∷ l)) (v .whole)
+    due-now Queue v = not-there v
 
     abbrev with-wait : ℕ → Waiting
     with-wait n = record { shows = waiting g .shows; mode = waiting g .mode; interval = waiting g .interval; wait = n }
@@ -243,6 +264,8 @@ module _ (h : List Event) (g : Placed) where
             cases (isTick e)
             (λ t. rw t (every-lower (g .begun .amount) (ticks (g .after)) p (rw t at d)))
             (λ t. rw t (omega arith))
+        go ServerAfter f p d = nth-lower (g .begun .amount) e (g .after)
+        go ServerWhen f p d = clash (sym f)
     shown-also ByDate v = λ not-yet. ap with-wait (go (g .begun .mode) (v .in-chain))
       where
         go : (m : Mode) → sameChain ByDate (chainFor m) ≡ true
@@ -250,6 +273,9 @@ module _ (h : List Event) (g : Placed) where
         go After f = clash (sym f)
         go When f = refl
         go Every f = clash (sym f)
+        go ServerAfter f = clash (sym f)
+        go ServerWhen f = refl
+    shown-also Queue v = not-there v
 
     -- where it is due and periodic it goes back
     shown-again : isPeriodic (g .begun .mode) ≡ true → isDue e g ≡ true → waiting (withEvent e g) ≡ renewed (waiting g)
@@ -263,6 +289,8 @@ module _ (h : List Event) (g : Placed) where
             let n = g .begun .amount in
             let parts = both (isTick e) (eqb (suc (ticks (g .after)) % n) 0) d in
             rw (parts .0) (omega (arith, eqb-true (suc (ticks (g .after)) % n) 0 (parts .1)))
+        go ServerAfter p d = clash (sym p)
+        go ServerWhen p d = clash (sym p)
 
 -- ---- the chain that the events give, as it is shown
 
@@ -279,9 +307,16 @@ inOrder l = order (λ w. w .wait) l
 abbrev pub chainFrom : Chain → List Event → List Waiting
 chainFrom k h = inOrder (map waiting (waitingIn k h))
 
--- those of a chain that fire in e, in firing order
+-- those of a chain that come due in e, started in such a mode, in firing order
+abbrev pub dueOf : (Option Mode → Bool) → Chain → List Event → Event → List Placed
+dueOf q k h e = order ticksLeftOrDate (keep (inChain k) (keep (λ g. comesDue e g && q (some (g .begun .mode))) (starts h)))
+
+-- those that fire, and those that are queued
 abbrev pub firingIn : Chain → List Event → Event → List Placed
-firingIn k h e = order ticksLeftOrDate (keep (inChain k) (keep (fires e) (starts h)))
+firingIn k h e = dueOf (λ o. not (forServer o)) k h e
+
+abbrev pub queuingIn : Chain → List Event → Event → List Placed
+queuingIn k h e = dueOf forServer k h e
 
 pub shown-order : (l : List Placed) → map waiting (order ticksLeftOrDate l) ≡ inOrder (map waiting l)
 shown-order l = map-orderOn waiting ticksLeftOrDate (λ w. w .wait) (λ g. refl) [] l
@@ -311,6 +346,7 @@ lowered-order ByTicks e x y p q = same-order (cond (isTick e) 1 0) (x .wait) (y 
     one true = omega arith
     one false = omega arith
 lowered-order ByDate e x y p q = refl
+lowered-order Queue e x y p q = refl
 
 module _ (k : Chain) (h : List Event) (sized : All Sized (starts h)) (e : Event) where
   -- a part of the waiting starts, one event later
@@ -427,6 +463,8 @@ module _ (k : Chain) (h : List Event) (sized : All Sized (starts h)) (e : Event)
       one ByDate w p r =
           clash (sym (both (periodic (w .mode)) (dueNow ByDate e h w)
           (both (not (ends (w .shows .id) e)) (periodic (w .mode) && dueNow ByDate e h w) r .1) .0) ∙ p)
+      one Queue w p r =
+          clash (sym (both (periodic (w .mode)) false (both (not (ends (w .shows .id) e)) (periodic (w .mode) && false) r .1) .0) ∙ p)
 
   -- and in firing order: those that remain, and those that go back and the new one put into their places
   pub chain-more : chainFrom k (e ∷ h)
@@ -441,18 +479,52 @@ module _ (k : Chain) (h : List Event) (sized : All Sized (starts h)) (e : Event)
       ∙ ap (map (lowered k e)) (sym (keep-order (λ w. w .wait) (remains k e h) W)))
       back-in-order
 
-  -- those that fire in the event, as the fired list has them
-  pub chain-fires : map entry (firingIn k h e) ≡ map (λ w. w .shows) (keep (dueNow k e h) (chainFrom k h))
-  chain-fires =
+  -- those that come due in the event, as they are shown
+  pub chain-due : (q : Option Mode → Bool) → map waiting (dueOf q k h e) ≡ keep (λ w. dueNow k e h w && q (w .mode)) (chainFrom k h)
+  chain-due q =
       let W = waitingIn k h in
+      let q′ : Placed → Bool = λ g. q (some (g .begun .mode)) in
       let due : Placed → Bool = λ g. dueNow k e h (waiting g) in
-      sym (map-map (λ w. w .shows) waiting (firingIn k h e))
-      ∙ ap (map (λ w. w .shows)) (shown-order (keep (inChain k) (keep (fires e) (starts h)))
+      let soon : Waiting → Bool = λ w. dueNow k e h w && q (w .mode) in
+      shown-order (keep (inChain k) (keep (λ g. comesDue e g && q′ g) (starts h)))
       ∙ ap (λ (l : List Placed). inOrder (map waiting l))
-      (ap (keep (inChain k)) (sym (keep-and (isDue e) waits (starts h))) ∙ keep-swap (inChain k) (isDue e) (keep waits (starts h))
+      (ap (keep (inChain k)) (sym (keep-and q′ (comesDue e) (starts h)) ∙ ap (keep q′) (sym (keep-and (isDue e) waits (starts h))))
+      ∙ keep-swap (inChain k) q′ (keep (isDue e) (keep waits (starts h)))
+      ∙ ap (keep q′) (keep-swap (inChain k) (isDue e) (keep waits (starts h))
       ∙ keep-on (isDue e) due W (all-map (λ g v. due-now h g e k v) W (waits-all k h sized)))
-      ∙ ap inOrder (sym (keep-map waiting (dueNow k e h) W))
-      ∙ sym (keep-order (λ w. w .wait) (dueNow k e h) (map waiting W)))
+      ∙ keep-and q′ due W)
+      ∙ ap inOrder (sym (keep-map waiting soon W))
+      ∙ sym (keep-order (λ w. w .wait) soon (map waiting W))
+
+-- ---- an event that does not move the clock
+
+no-tick : (e : Event) → movesClock e ≡ false → isTick e ≡ false
+no-tick (laidOutFor k) z = refl
+no-tick (changes i s) z = refl
+no-tick (deletes i) z = refl
+no-tick oneTick z = clash z
+no-tick (clockSetTo d) z = refl
+no-tick initiates z = refl
+no-tick servesFront z = refl
+no-tick nothing z = refl
+
+-- nothing comes due in it
+pub none-due : (e : Event) → movesClock e ≡ false → (q : Option Mode → Bool) (k : Chain) (h : List Event) → dueOf q k h e ≡ []
+none-due e still q k h =
+    ap (λ (l : List Placed). order ticksLeftOrDate (keep (inChain k) l))
+    (keep-none (λ g. comesDue e g && q (some (g .begun .mode))) (starts h) (all not-due (starts h)))
+  where
+    not-now : (m : Mode) (n : ℕ) (before after : List Event) → dueIn m n e before after ≡ false
+    not-now After n before after = rw (no-tick e still)
+    not-now When n before after = rw still
+    not-now Every n before after = rw (no-tick e still)
+    not-now ServerAfter n before after = rw (no-tick e still)
+    not-now ServerWhen n before after = rw still
+
+    not-due : (g : Placed) → (comesDue e g && q (some (g .begun .mode))) ≡ false
+    not-due g =
+        ap (λ (b : Bool). (waits g && b) && q (some (g .begun .mode))) (not-now (g .begun .mode) (g .begun .amount) (g .before) (g .after))
+        ∙ ap (λ (b : Bool). b && q (some (g .begun .mode))) (and-false (waits g))
 
 -- no dated timer goes back
 pub none-dated-back : (h : List Event) → All Sized (starts h) → (e : Event) → keep (returns ByDate e h) (chainFrom ByDate h) ≡ []

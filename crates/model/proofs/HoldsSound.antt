@@ -10,18 +10,18 @@ use lib.ListN.{length, getD, length-map}
 use lib.Dec.{leb, ltb, eqb}
 use borrow.Author.Tests.{ltb-false, eqb-true, eqb-false, eq-eqb, le-leb, lt-ltb, not-false}
 use Rattle.model.specs.Lists.{count, every, All, Sorted}
-use Rattle.model.specs.Kinds.{Chain, ByTicks, ByDate, kindAt, linked, waitsIn, lastByTicks}
+use Rattle.model.specs.Kinds.{Chain, ByTicks, ByDate, Queue, kindAt, linked, waitsIn, lastByTicks}
 use Rattle.model.specs.State.{Slot, Link, State, chainOf, slotAt}
 use Rattle.calendar.specs.Calendar.{allOf, lastSecond}
-use Rattle.model.specs.Words.{first, word, headWord, along, slotFrom, slotCount, ticksPerSecond, clockSet, seconds, ticksInto, firstDated, kindOf, nameOf, intervalOf, waitOf, routineOf, dataOf, nextOf, previousOf}
-use Rattle.model.specs.Sound.{headerTests, headerSound, unlinked, unstarted, slotTests, slotSound, previousSound, chainTests, chainSound, firstSound, ticksSound, rising, datesSound, soundTests, sound}
+use Rattle.model.specs.Words.{first, word, headWord, along, slotFrom, slotCount, ticksPerSecond, clockSet, seconds, ticksInto, firstDated, serverInitiated, kindOf, nameOf, intervalOf, waitOf, routineOf, dataOf, nextOf, previousOf}
+use Rattle.model.specs.Sound.{headerTests, headerSound, unlinked, unstarted, slotTests, slotSound, previousSound, chainTests, chainSound, firstSound, ticksSound, rising, datesSound, queueSound, soundTests, sound}
 use Rattle.model.proofs.ListLaws.{cases, and-both, every-true, all-up, all-map, all-zip, all-mapped}
 use Rattle.model.proofs.WellFormed.{Shape, WellFormed, Holds}
 use Rattle.model.proofs.Chains.{InSlots, in-slots, fits}
 use Rattle.model.proofs.KindLaws.{in-none}
 use Rattle.model.proofs.EachPlace.{end, _&_, passed}
 use Rattle.model.proofs.StateWords.{headWords, holds-spelled, Loose, Parts, holds-parts, Linked, holds-linked}
-use Rattle.model.proofs.ReadBack.{count-slots, count-is, set-is, links-is, by-next}
+use Rattle.model.proofs.ReadBack.{count-slots, count-is, set-is, server-is, links-is, by-next}
 
 or-if : (a b : Bool) → (a ≡ false → b ≡ true) → (a || b) ≡ true
 or-if true b f = refl
@@ -29,12 +29,12 @@ or-if false b f = f refl
 
 -- ---- a slot
 
-slot-sound : (t : List ℕ) (i : ℕ) → Shape (slotFrom t i) → (linked (kindOf t i) ≡ false → Loose t i) → slotSound t i ≡ true
+slot-sound : (t : List ℕ) (i : ℕ) → Shape (eqb (serverInitiated t) 1) (slotFrom t i) → (linked (kindOf t i) ≡ false → Loose t i) → slotSound t i ≡ true
 unfolding slotSound
 slot-sound t i h loose =
     let kind = kindOf t i in
     passed (slotTests t i kind) (
-    le-leb kind 7 (h .kinds)
+    le-leb kind 13 (h .kinds)
     & or-if (not (eqb kind 0)) (eqb (nameOf t i) 0) (λ e. eq-eqb (nameOf t i) 0 (h .nameless (eqb-true kind 0 (not-false (eqb kind 0) e))))
     & or-if (eqb kind 0) (ltb 0 (nameOf t i)) (λ e. lt-ltb 0 (nameOf t i) (h .named (pos-of-ne-zero (eqb-false kind 0 e))))
     & or-if (ltb 1 kind) (unstarted t i) (λ e.
@@ -47,6 +47,7 @@ slot-sound t i h loose =
     let z = loose e in
     passed (eqb (waitOf t i) 0 ∷ eqb (nextOf t i) 0 ∷ eqb (previousOf t i) 0 ∷ [])
     (eq-eqb (waitOf t i) 0 (z .wait) & eq-eqb (nextOf t i) 0 (z .next) & eq-eqb (previousOf t i) 0 (z .previous) & end))
+    & or-if (ltb kind 8) (eqb (word t 8) 1) (λ e. h .by-server (ltb-false kind 8 e))
     & end)
 
 -- ---- a chain
@@ -119,8 +120,7 @@ module _ (t : List ℕ) (s : State) (h : Holds t s) where
         & le-leb (seconds t) lastSecond (omega (arith, ok .second-high))
         & lt-ltb (ticksInto t) (ticksPerSecond t) (omega (arith, ok .into))
         & eq-eqb (word t 7) 0 (heads 7 (omega arith))
-        & eq-eqb (word t 8) 0 (heads 8 (omega arith))
-        & eq-eqb (word t 9) 0 (heads 9 (omega arith))
+        & le-leb (word t 8) 1 (omega (arith, heads 8 (omega arith), bit (s .server)))
         & or-if (eqb (clockSet t) 1) (allOf (eqb (seconds t) 0 ∷ eqb (ticksInto t) 0 ∷ eqb (firstDated t) 0 ∷ [])) (λ e.
         let z = ok .unset (sym (set-is t s h) ∙ e) in
         passed (eqb (seconds t) 0 ∷ eqb (ticksInto t) 0 ∷ eqb (firstDated t) 0 ∷ [])
@@ -155,15 +155,24 @@ module _ (t : List ℕ) (s : State) (h : Holds t s) where
         (rises (suc (seconds t)) c (all-map (λ w p. omega (arith, p .0)) c (ok .dates)) (h .chained .rises ByDate))
         (every-true low c (all-map (λ w p. le-leb (w .wait) lastSecond (p .1)) c (ok .dates)))
 
+    queue-sound : queueSound t ≡ true
+    unfolding queueSound
+    queue-sound =
+        let zero-wait : Link → Bool = λ w. eqb (w .wait) 0 in
+        ap (every zero-wait) (links-is t s h Queue)
+        ∙ every-true zero-wait (s .queue) (all-map (λ w p. eq-eqb (w .wait) 0 p) (s .queue) (h .chained .within Queue))
+
     pub well-formed-sound : sound t ≡ true
     unfolding sound
     well-formed-sound = passed (soundTests t) (
         header-sound
         & all-up (slotSound t) 1 (slotCount t) (λ i a b.
         let n : i ≤ length (s .slots) = omega (arith, count-is t s h) in
-        slot-sound t i (subst Shape (sym (parts .slots i a n)) (ok .shape i)) (loose i a n))
+        slot-sound t i (subst (λ (x : Slot). Shape (eqb (word t 8) 1) x) (sym (parts .slots i a n)) (rw (server-is t s h) (ok .shape i))) (loose i a n))
         & chain-sound ByTicks
         & chain-sound ByDate
+        & chain-sound Queue
         & ticks-sound
         & dates-sound
+        & queue-sound
         & end)

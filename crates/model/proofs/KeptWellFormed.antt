@@ -5,29 +5,29 @@ use Prim.Native.Nat.{ℕ, _≤_, _<_, zero-le}
 use native.Mathlib.Nat.{pos-of-ne-zero}
 use native.Mathlib.Omega.{arith}
 use mathlib.Core.Bool.{Bool, true, false, not}
-use mathlib.Core.List.{List, [], _∷_}
-use lib.ListN.{length, length-append}
+use mathlib.Core.List.{List, [], _∷_, _++_}
+use lib.ListN.{length, take, drop, length-append}
 use lib.Dec.{leb, ltb, eqb}
 use borrow.Author.Tests.{ltb-true, eqb-true}
 use Rattle.calendar.specs.Calendar.{secondsOf, lastSecond}
 use Rattle.calendar.proofs.Theorems.{seconds-in-range}
 use Rattle.model.specs.Lists.{keep, place, All}
 use Rattle.model.specs.Status.{firstOf}
-use Rattle.model.specs.Calls.{Call, layOut, create, ident, cancel, delete, fireAfter, fireWhen, fireEvery, reset, ticksLeft, tick, setClock, getClock, isLayOut}
-use Rattle.model.specs.Kinds.{Chain, ByTicks, ByDate, Mode, After, When, Every, kindAt, chainFor, sameChain, waitsIn, lastMode}
+use Rattle.model.specs.Calls.{Call, layOut, create, ident, cancel, delete, fireAfter, fireWhen, fireEvery, reset, ticksLeft, tick, setClock, getClock, initiateServer, serverFireAfter, serverFireWhen, serve, isLayOut}
+use Rattle.model.specs.Kinds.{Chain, ByTicks, ByDate, Queue, Mode, After, When, Every, ServerAfter, ServerWhen, kindAt, chainFor, waitingKind, sameChain, waitsIn, forServer, lastMode}
 use Rattle.model.specs.State.{Slot, Link, Clock, State, chainOf, withChain, withClock, free, slotAt, putAt, without, indexOf}
-use Rattle.model.specs.Directives.{refusals, lowestFree, laidOut, stored, neverStarted, stopped, idled, waitingAs, started, firedAll, due, off, fire, nearer, clockAt, clockStep, effect}
-use Rattle.model.proofs.ListLaws.{cases, clash, all-map, all-keep, all-passed, all-zip, all-place, all-mapped, length-keep}
+use Rattle.model.specs.Directives.{refusals, lowestFree, laidOut, stored, neverStarted, stopped, idled, waitingAs, started, firedAll, due, off, fire, withoutServer, front, handedOut, initiated, nearer, clockAt, clockStep, effect}
+use Rattle.model.proofs.ListLaws.{cases, clash, all, all-map, all-keep, all-passed, all-zip, all-place, all-mapped, length-keep}
 use Rattle.model.proofs.Order.{all-orderOn}
-use Rattle.model.proofs.Slots.{put-any, length-put, blank}
+use Rattle.model.proofs.Slots.{put-any, length-put, length-firedAll, blank}
 use Rattle.model.proofs.WellFormed.{Chained, Shape, WellFormed}
-use Rattle.model.proofs.Chains.{fit-both}
-use Rattle.model.proofs.KindLaws.{stopped-not-in, again-not-dated, in-ticks, timed-started, timed-mode}
-use Rattle.model.proofs.GoingBack.{goesTo, again, backIn}
+use Rattle.model.proofs.Chains.{fits, fit-both}
+use Rattle.model.proofs.KindLaws.{stopped-not-in, again-not-dated, in-ticks, again-server, timed-started, timed-mode}
+use Rattle.model.proofs.GoingOn.{goesTo, again, backIn}
 use Rattle.model.proofs.ClockSteps.{clock-isSet, clock-perSecond, clock-into, clock-last, clock-unset}
 use Rattle.model.proofs.Searches.{found}
 use Rattle.model.proofs.Shapes.{free-shape, never-started-shape, Some, waiting-shape, idle-shape, shape-firedAll}
-use Rattle.model.proofs.Steps.{with-chain-slots, with-chain-clock, with-chain-each, stored-chain, stopped-chain, length-laid, length-stored, length-stopped, length-started, fire-slots, fire-clock, fire-chain, none-back, fire-elsewhere, length-fire, chained-stored, chained-stopped, chained-started, chained-fire, chained-nearer, chained-with-clock, chained-laid}
+use Rattle.model.proofs.Steps.{with-chain-slots, with-chain-clock, with-chain-server, with-chain-each, stored-chain, stopped-chain, length-laid, length-stored, length-stopped, length-started, fire-slots, fire-clock, fire-server, fire-chain, due-parts, none-back, fire-elsewhere, length-fire, chained-stored, chained-stopped, chained-started, chained-fire, chained-nearer, chained-with-clock, chained-laid, chained-handed, chained-initiated, initiated-chain}
 use Rattle.model.proofs.AcceptedCalls.{Named, accepted-facts}
 
 -- ---- the parts of well-formedness
@@ -43,6 +43,7 @@ record ClockFormed (c : Clock) : Type 0 where
 abbrev Ahead : Chain → Clock → ℕ → Type 0
 Ahead ByTicks c wait = 1 ≤ wait
 Ahead ByDate c wait = (c .isSet ≡ true) × (c .second < wait) × (wait ≤ lastSecond)
+Ahead Queue c wait = Unit {0}
 
 abbrev AllAhead : Chain → Clock → List Link → Type 0
 AllAhead k c l = All (λ w. Ahead k c (w .wait)) l
@@ -63,8 +64,9 @@ module _ (s : State) (h : WellFormed s) where
       cases (s .clock .isSet)
       (λ e. all-map (λ w p. (e, p .0, p .1)) (s .dated) (h .dates))
       (λ e. subst (AllAhead ByDate (s .clock)) (sym (h .unset e .2)) tt)
+  all-ahead Queue = all (λ w. tt) (s .queue)
 
-formed : (s : State) → Chained s → 1 ≤ length (s .slots) → ClockFormed (s .clock) → ((i : ℕ) → Shape (slotAt (s .slots) i))
+formed : (s : State) → Chained s → 1 ≤ length (s .slots) → ClockFormed (s .clock) → ((i : ℕ) → Shape (s .server) (slotAt (s .slots) i))
     → ((k : Chain) → AllAhead k (s .clock) (chainOf k s)) → WellFormed s
 formed s chained some clock shape ahead = record {
   chained = chained;
@@ -84,11 +86,11 @@ formed s chained some clock shape ahead = record {
     no-dates (w ∷ ws) e p = clash (sym (p .0 .0) ∙ e)
 
 formed-with-chain : (k : Chain) (s : State) (slots : List Slot) (l : List Link)
-    → Chained (withChain k s slots l) → 1 ≤ length slots → ClockFormed (s .clock) → ((i : ℕ) → Shape (slotAt slots i)) → AllAhead k (s .clock) l
+    → Chained (withChain k s slots l) → 1 ≤ length slots → ClockFormed (s .clock) → ((i : ℕ) → Shape (s .server) (slotAt slots i)) → AllAhead k (s .clock) l
     → ((j : Chain) → sameChain j k ≡ false → AllAhead j (s .clock) (chainOf j s)) → WellFormed (withChain k s slots l)
 formed-with-chain k s slots l chained some clock shape own rest =
     formed (withChain k s slots l) chained (rw (with-chain-slots s slots l k) some) (rw (with-chain-clock s slots l k) clock)
-    (rw (with-chain-slots s slots l k) shape) (rw (with-chain-clock s slots l k) (with-chain-each s slots l (λ j. AllAhead j (s .clock)) k own rest))
+    (rw (with-chain-slots s slots l k, with-chain-server s slots l k) shape) (rw (with-chain-clock s slots l k) (with-chain-each s slots l (λ j. AllAhead j (s .clock)) k own rest))
 
 -- ---- lay out
 
@@ -96,11 +98,12 @@ pub laid-well-formed : (n t : ℕ) → 1 ≤ n → n ≤ 255 → 1 ≤ t → t �
 laid-well-formed n t n₁ n₂ t₁ t₂ =
     formed (laidOut n t) (chained-laid n t n₂) (omega (arith, length-laid n t))
     (record { per-low = t₁; per-high = t₂; into = t₁; second-high = zero-le; unset = λ e. (refl, refl) })
-    (λ i. rw (blank n i) free-shape) none
+    (λ i. rw (blank n i) (free-shape false)) none
   where
     none : (k : Chain) → AllAhead k (laidOut n t .clock) (chainOf k (laidOut n t))
     none ByTicks = tt
     none ByDate = tt
+    none Queue = tt
 
 -- ---- slots written
 
@@ -108,51 +111,52 @@ module _ (s : State) (h : WellFormed s) where
   some-put : (i : ℕ) (x : Slot) → 1 ≤ length (putAt (s .slots) i x)
   some-put i x = omega (arith, length-put (s .slots) i x, h .some-slot)
 
-  shape-put : (i : ℕ) (x : Slot) → Shape x → (j : ℕ) → Shape (slotAt (putAt (s .slots) i x) j)
-  shape-put i x hx j = put-any Shape (s .slots) i j x hx (h .shape j)
+  shape-put : (i : ℕ) (x : Slot) → Shape (s .server) x → (j : ℕ) → Shape (s .server) (slotAt (putAt (s .slots) i x) j)
+  shape-put i x hx j = put-any (Shape (s .server)) (s .slots) i j x hx (h .shape j)
 
   ahead-without : (k : Chain) (i : ℕ) → AllAhead k (s .clock) (without i (chainOf k s))
   ahead-without k i = all-keep (λ w. Ahead k (s .clock) (w .wait)) (λ w. not (eqb (w .slot) i)) (chainOf k s) (all-ahead s h k)
 
   formed-stored : (i : ℕ) (x : Slot) → 0 < i → i ≤ length (s .slots) → slotAt (s .slots) i .kind ≡ 0
-      → ((k : Chain) → waitsIn k (x .kind) ≡ false) → Shape x → WellFormed (stored s i x)
+      → ((k : Chain) → waitsIn k (x .kind) ≡ false) → Shape (s .server) x → WellFormed (stored s i x)
   formed-stored i x low high e n hx =
       formed (stored s i x) (chained-stored s (h .chained) i x low high e n) (some-put i x) (clock-formed s h) (shape-put i x hx)
       (λ k. rw (stored-chain s i x k) (all-ahead s h k))
 
   formed-stopped : (i : ℕ) (x : Slot) → 0 < i → i ≤ length (s .slots)
-      → ((k : Chain) → waitsIn k (x .kind) ≡ false) → Shape x → WellFormed (stopped s i x)
+      → ((k : Chain) → waitsIn k (x .kind) ≡ false) → Shape (s .server) x → WellFormed (stopped s i x)
   formed-stopped i x low high n hx =
       formed (stopped s i x) (chained-stopped s (h .chained) i x low high n) (some-put i x) (clock-formed s h) (shape-put i x hx)
       (λ k. rw (stopped-chain s i x k) (ahead-without k i))
 
   formed-started : (m : Mode) (i amount r u : ℕ) → 0 < i → i ≤ length (s .slots) → 0 < slotAt (s .slots) i .name → 0 < r
-      → Some (chainFor m) amount → Ahead (chainFor m) (s .clock) amount → WellFormed (started m s i amount r u)
-  formed-started m i amount r u low high name routine some ahead =
+      → Some (chainFor m) amount → Ahead (chainFor m) (s .clock) amount → (8 ≤ waitingKind m → s .server ≡ true) → WellFormed (started m s i amount r u)
+  formed-started m i amount r u low high name routine some ahead server =
       let k = chainFor m in
       let x : Slot = waitingAs m (slotAt (s .slots) i) amount r u in
       let new : Link = record { slot = i; wait = amount } in
       formed-with-chain k (stopped s i x) (putAt (s .slots) i x) (place (λ w. w .wait) new (chainOf k (stopped s i x)))
       (chained-started m s (h .chained) i amount r u low high)
       (some-put i x) (clock-formed s h)
-      (shape-put i x (waiting-shape m (slotAt (s .slots) i) amount r u name routine some))
+      (shape-put i x (waiting-shape (s .server) m (slotAt (s .slots) i) amount r u name routine some server))
       (rw (stopped-chain s i x k) (all-place (λ w. Ahead k (s .clock) (w .wait)) (λ w. w .wait) new (without i (chainOf k s)) ahead (ahead-without k i)))
       (λ j _. rw (stopped-chain s i x j) (ahead-without j i))
 
 -- ---- timers fired
 
 -- what goes back has an interval to wait, and nothing goes back to a date
-ahead-back : (c : Clock) (slots : List Slot) (ws : List Link) → ((i : ℕ) → Shape (slotAt slots i)) → backIn ByDate slots ws ≡ []
+ahead-back : (c : Clock) (b : Bool) (slots : List Slot) (ws : List Link) → ((i : ℕ) → Shape b (slotAt slots i)) → backIn ByDate slots ws ≡ []
     → (j : Chain) → AllAhead j c (backIn j slots ws)
-ahead-back c slots ws shape none ByTicks =
-    all-mapped (again slots) (λ w. 1 ≤ w .wait) (keep (goesTo ByTicks slots) ws)
+ahead-back c b slots ws shape none ByTicks =
+    all-mapped (again ByTicks slots) (λ w. 1 ≤ w .wait) (keep (goesTo ByTicks slots) ws)
     (all-map (λ w p. shape (w .slot) .by-ticks (in-ticks (slotAt slots (w .slot) .kind) p)) (keep (goesTo ByTicks slots) ws)
     (all-passed (goesTo ByTicks slots) ws))
-ahead-back c slots ws shape none ByDate = subst (AllAhead ByDate c) (sym none) tt
+ahead-back c b slots ws shape none ByDate = subst (AllAhead ByDate c) (sym none) tt
+ahead-back c b slots ws shape none Queue = all (λ w. tt) (backIn Queue slots ws)
 
-module _ (k : Chain) (limit : ℕ) (s : State) (chained : Chained s) (shape : (i : ℕ) → Shape (slotAt (s .slots) i)) where
-  fired-shape : (i : ℕ) → Shape (slotAt (fire k limit s .slots) i)
-  fired-shape = rw (fire-slots k limit s) (shape-firedAll (due k limit s) (s .slots) shape)
+module _ (k : Chain) (limit : ℕ) (s : State) (chained : Chained s) (shape : (i : ℕ) → Shape (s .server) (slotAt (s .slots) i)) where
+  fired-shape : (i : ℕ) → Shape (fire k limit s .server) (slotAt (fire k limit s .slots) i)
+  fired-shape = rw (fire-slots k limit s, fire-server k limit s) (shape-firedAll (s .server) (due k limit s) (s .slots) shape)
 
   -- what is left in each chain is ahead, so what is there after they fired is
   ahead-fired : (c : Clock) → AllAhead k c (keep (λ w. ltb limit (w .wait)) (chainOf k s))
@@ -161,11 +165,11 @@ module _ (k : Chain) (limit : ℕ) (s : State) (chained : Chained s) (shape : (i
       let slots = firedAll (due k limit s) (s .slots) in
       rw (fire-chain k limit s j) (all-orderOn (λ w. Ahead j c (w .wait)) (λ w. w .wait) (chainOf j (off k limit s)) (backIn j slots (due k limit s))
       (with-chain-each s slots (keep (λ w. ltb limit (w .wait)) (chainOf k s)) (λ j. AllAhead j c) k own rest j)
-      (ahead-back c slots (due k limit s) (shape-firedAll (due k limit s) (s .slots) shape)
-      (none-back k limit s chained ByDate (λ n _. again-not-dated n)) j))
+      (ahead-back c (s .server) slots (due k limit s) (shape-firedAll (s .server) (due k limit s) (s .slots) shape)
+      (none-back k s chained (due k limit s) (keep (λ w. ltb limit (w .wait)) (chainOf k s)) (due-parts k limit s) ByDate (λ n _. again-not-dated n)) j))
 
 -- dated timers at or before the clock's second fire: the others are after it
-formed-fired : (s : State) → Chained s → 1 ≤ length (s .slots) → ClockFormed (s .clock) → ((i : ℕ) → Shape (slotAt (s .slots) i))
+formed-fired : (s : State) → Chained s → 1 ≤ length (s .slots) → ClockFormed (s .clock) → ((i : ℕ) → Shape (s .server) (slotAt (s .slots) i))
     → ((k : Chain) → sameChain k ByDate ≡ false → AllAhead k (s .clock) (chainOf k s))
     → All (λ w. (s .clock .isSet ≡ true) × (w .wait ≤ lastSecond)) (s .dated) → WellFormed (fire ByDate (s .clock .second) s)
 formed-fired s chained some clock shape rest dates =
@@ -210,10 +214,12 @@ module _ (s : State) (h : WellFormed s) where
       dated : (j : Chain) → sameChain j ByTicks ≡ false → AllAhead j (s .clock) (chainOf j (nearer s))
       dated ByTicks e = clash e
       dated ByDate e = all-ahead s h ByDate
+      dated Queue e = all-ahead s h Queue
 
       rest : (k : Chain) → sameChain k ByDate ≡ false → AllAhead k (clockStep (s .clock)) (chainOf k (withClock (fire ByTicks 0 (nearer s)) (clockStep (s .clock))))
       rest ByTicks e = ahead-fired ByTicks 0 (nearer s) near (h .shape) (s .clock) own dated ByTicks
       rest ByDate e = clash e
+      rest Queue e = all (λ w. tt) (fire ByTicks 0 (nearer s) .queue)
 
   formed-clock-set : (second : ℕ) → second ≤ lastSecond → WellFormed (fire ByDate second (withClock s (clockAt (s .clock) second 0)))
   formed-clock-set second last =
@@ -225,6 +231,27 @@ module _ (s : State) (h : WellFormed s) where
       rest : (k : Chain) → sameChain k ByDate ≡ false → AllAhead k (clockAt (s .clock) second 0) (chainOf k (withClock s (clockAt (s .clock) second 0)))
       rest ByTicks e = h .ticks
       rest ByDate e = clash e
+      rest Queue e = all-ahead s h Queue
+
+  formed-handed : WellFormed (handedOut s)
+  formed-handed =
+      formed-with-chain Queue s (firedAll (front s) (s .slots)) (drop 1 (s .queue)) (chained-handed s (h .chained))
+      (omega (arith, length-firedAll (front s) (s .slots), h .some-slot)) (clock-formed s h)
+      (shape-firedAll (s .server) (front s) (s .slots) (h .shape)) (all (λ w. tt) (drop 1 (s .queue))) (λ j _. all-ahead s h j)
+
+  formed-initiated : WellFormed (initiated s)
+  formed-initiated =
+      formed (initiated s) (chained-initiated s (h .chained)) (h .some-slot) (clock-formed s h)
+      (λ i. let x = h .shape i in record {
+        kinds = x .kinds;
+        nameless = x .nameless;
+        named = x .named;
+        blank = x .blank;
+        used = x .used;
+        by-ticks = x .by-ticks;
+        by-date = x .by-date;
+        by-server = λ p. refl;
+      }) (λ k. rw (initiated-chain s k) (all-ahead s h k))
 
   -- ---- every call
 
@@ -240,28 +267,30 @@ module _ (s : State) (h : WellFormed s) where
         let p = accepted-facts words s (create name) e in
         let at = found (λ x. eqb (x .kind) 0) (s .slots) (p .1) in
         formed-stored s h (lowestFree s) (neverStarted name) (at .low) (at .high) (eqb-true (slotAt (s .slots) (lowestFree s) .kind) 0 (at .passes))
-        (λ k. refl) (never-started-shape name (p .0))
+        (λ k. refl) (never-started-shape (s .server) name (p .0))
     kept (ident name) e = h
     kept (cancel id) e =
         let is = accepted-facts words s (cancel id) e in
         let x = slotAt (s .slots) (indexOf id) in
-        formed-stopped s h (indexOf id) (idled x) (is .low) (is .high) (λ k. stopped-not-in k (x .kind)) (idle-shape x (h .shape (indexOf id)))
+        formed-stopped s h (indexOf id) (idled x) (is .low) (is .high) (λ k. stopped-not-in k (x .kind)) (idle-shape (s .server) x (h .shape (indexOf id)))
     kept (delete id) e =
         let is = accepted-facts words s (delete id) e in
-        formed-stopped s h (indexOf id) free (is .low) (is .high) (λ k. refl) free-shape
+        formed-stopped s h (indexOf id) free (is .low) (is .high) (λ k. refl) (free-shape (s .server))
     kept (fireAfter id n r u) e =
         let p = accepted-facts words s (fireAfter id n r u) e in
         let is = p .names-one in
         formed-started s h After (indexOf id) n r u (is .low) (is .high) (has-name id is) (p .routine) (p .ticks) (p .ticks)
+        (λ q. absurd (omega arith))
     kept (fireWhen id w r u) e =
         let p = accepted-facts words s (fireWhen id w r u) e in
         let is = p .names-one in
         formed-started s h When (indexOf id) (secondsOf w) r u (is .low) (is .high) (has-name id is) (p .routine) tt
-        (p .running, p .later, seconds-in-range w (p .is-valid))
+        (p .running, p .later, seconds-in-range w (p .is-valid)) (λ q. absurd (omega arith))
     kept (fireEvery id n r u) e =
         let p = accepted-facts words s (fireEvery id n r u) e in
         let is = p .names-one in
         formed-started s h Every (indexOf id) n r u (is .low) (is .high) (has-name id is) (p .routine) (p .ticks) (p .ticks)
+        (λ q. absurd (omega arith))
     kept (reset id) e =
         let p = accepted-facts words s (reset id) e in
         let is = p .0 in
@@ -270,10 +299,24 @@ module _ (s : State) (h : WellFormed s) where
         let by-ticks : chainFor (lastMode (x .kind)) ≡ ByTicks = timed-mode (kindAt (x .kind) .last) (p .1) in
         formed-started s h (lastMode (x .kind)) (indexOf id) (x .interval) (x .routine) (x .userData) (is .low) (is .high) (has-name id is)
         (h .shape (indexOf id) .used (timed-started (x .kind) (p .1))) (rw by-ticks some) (rw by-ticks some)
+        (λ q. h .shape (indexOf id) .by-server (again-server (x .kind) (omega (arith, h .shape (indexOf id) .kinds)) q))
     kept (ticksLeft id) e = h
     kept (tick list) e = formed-ticked list
     kept (setClock w list) e = formed-clock-set (secondsOf w) (seconds-in-range w (accepted-facts words s (setClock w list) e .1))
     kept getClock e = h
+    kept initiateServer e = formed-initiated
+    kept (serverFireAfter id n r u) e =
+        let q = accepted-facts words s (serverFireAfter id n r u) e in
+        let p = q .1 in
+        let is = p .names-one in
+        formed-started s h ServerAfter (indexOf id) n r u (is .low) (is .high) (has-name id is) (p .routine) (p .ticks) (p .ticks) (λ _. q .0)
+    kept (serverFireWhen id w r u) e =
+        let q = accepted-facts words s (serverFireWhen id w r u) e in
+        let p = q .1 in
+        let is = p .names-one in
+        formed-started s h ServerWhen (indexOf id) (secondsOf w) r u (is .low) (is .high) (has-name id is) (p .routine) tt
+        (p .running, p .later, seconds-in-range w (p .is-valid)) (λ _. q .0)
+    kept (serve list) e = formed-handed
 
 -- ---- what no call changes, and how many fire
 
@@ -297,6 +340,10 @@ module _ (s : State) where
       length-fire ByDate (clock .second) (withClock (fire ByTicks 0 (nearer s)) clock) ∙ length-fire ByTicks 0 (nearer s)
   slots-kept (setClock w list) l = length-fire ByDate (secondsOf w) (withClock s (clockAt (s .clock) (secondsOf w) 0))
   slots-kept getClock l = refl
+  slots-kept initiateServer l = refl
+  slots-kept (serverFireAfter id n r u) l = length-started ServerAfter s (indexOf id) n r u
+  slots-kept (serverFireWhen id w r u) l = length-started ServerWhen s (indexOf id) (secondsOf w) r u
+  slots-kept (serve list) l = length-firedAll (front s) (s .slots)
 
   -- no call fires more timers than there are slots
   pub bound : WellFormed s → (c : Call) → length (effect s c .fired) ≤ length (s .slots)
@@ -316,10 +363,27 @@ module _ (s : State) where
       omega (
         arith,
         fit-both near (chained-nearer s (h .chained)),
+        length-direct (due ByTicks 0 near ++ due ByDate second (fire ByTicks 0 near)),
         length-append (due ByTicks 0 near) (due ByDate second (fire ByTicks 0 near)),
         length-keep (λ w. leb (w .wait) 0) (near .ticking),
         length-keep (λ w. leb (w .wait) second) (fire ByTicks 0 near .dated),
         ap length (fire-elsewhere ByTicks 0 near (chained-nearer s (h .chained)) ByDate (λ n _. again-not-dated n) refl),
       )
-  bound h (setClock date list) = omega (arith, fit-both s (h .chained), length-keep (λ w. leb (w .wait) (secondsOf date)) (s .dated))
+    where
+      length-direct : (l : List Link) → length (withoutServer (s .slots) l) ≤ length l
+      length-direct l = length-keep (λ w. not (forServer (kindAt (slotAt (s .slots) (w .slot) .kind) .last))) l
+  bound h (setClock date list) = omega (
+    arith,
+    fit-both s (h .chained),
+    length-keep (λ w. not (forServer (kindAt (slotAt (s .slots) (w .slot) .kind) .last))) (keep (λ w. leb (w .wait) (secondsOf date)) (s .dated)),
+    length-keep (λ w. leb (w .wait) (secondsOf date)) (s .dated),
+  )
   bound h getClock = zero-le
+  bound h initiateServer = zero-le
+  bound h (serverFireAfter id n r u) = zero-le
+  bound h (serverFireWhen id w r u) = zero-le
+  bound h (serve list) = omega (arith, fits s (h .chained) Queue, front-short (s .queue))
+    where
+      front-short : (l : List Link) → length (take 1 l) ≤ length l
+      front-short [] = zero-le
+      front-short (w ∷ ws) = omega arith

@@ -9,7 +9,7 @@ use lib.ListN.{length, getD, List·getD-eq-default}
 use lib.Dec.{leb, ltb, eqb}
 use borrow.Author.Tests.{leb-true, le-leb, lt-leb, ltb-true, ltb-false, eqb-true}
 use Rattle.calendar.specs.Calendar.{allOf}
-use Rattle.model.specs.Kinds.{Chain, ByTicks, ByDate, Mode, After, When, Every, Kind, kindEntry, kinds, kindAt, chainFor, waitingKind, isPeriodic, sameChain, isIn, waitsIn, isSome, byTicks, lastByTicks, modeOrAfter}
+use Rattle.model.specs.Kinds.{Chain, ByTicks, ByDate, Queue, Mode, After, When, Every, ServerAfter, ServerWhen, Kind, kindEntry, kinds, kindAt, chainFor, waitingKind, isPeriodic, sameChain, isIn, waitsIn, isSome, byTicks, lastByTicks, forServer, modeOrAfter}
 use Rattle.model.proofs.ListLaws.{cases, clash, all-at}
 
 -- what a reading of kinds gives for each kind of a table
@@ -56,18 +56,29 @@ of-chain k f g same n e =
 pub same-chain : (j k : Chain) → sameChain j k ≡ true → j ≡ k
 same-chain ByTicks ByTicks e = refl
 same-chain ByTicks ByDate e = clash (sym e)
+same-chain ByTicks Queue e = clash (sym e)
 same-chain ByDate ByTicks e = clash (sym e)
 same-chain ByDate ByDate e = refl
+same-chain ByDate Queue e = clash (sym e)
+same-chain Queue ByTicks e = clash (sym e)
+same-chain Queue ByDate e = clash (sym e)
+same-chain Queue Queue e = refl
 
 pub own-chain : (k : Chain) → sameChain k k ≡ true
 own-chain ByTicks = refl
 own-chain ByDate = refl
+own-chain Queue = refl
 
 pub chain-sym : (j k : Chain) → sameChain j k ≡ sameChain k j
 chain-sym ByTicks ByTicks = refl
 chain-sym ByTicks ByDate = refl
+chain-sym ByTicks Queue = refl
 chain-sym ByDate ByTicks = refl
 chain-sym ByDate ByDate = refl
+chain-sym ByDate Queue = refl
+chain-sym Queue ByTicks = refl
+chain-sym Queue ByDate = refl
+chain-sym Queue Queue = refl
 
 -- what holds of chain k and of all that are not k
 pub each-chain : (P : Chain → Type 0) (k : Chain) → P k → ((j : Chain) → sameChain j k ≡ false → P j) → (j : Chain) → P j
@@ -92,26 +103,41 @@ in-none (some j) k e = clash e
 
 -- ---- kinds
 
+stopped-not-on : (k : Chain) → readAll (λ _ x. waitsIn k (x .whenStopped)) 0 kinds ≡ readAll (λ _ _. false) 0 kinds
+    → (n : ℕ) → waitsIn k (kindAt n .whenStopped) ≡ false
+stopped-not-on k same = on-numbers (λ _ x. waitsIn k (x .whenStopped)) (λ _ _. false) same (λ n e. ap (λ (x : Kind). isIn k (x .chain)) e)
+
 pub stopped-not-in : (k : Chain) (n : ℕ) → waitsIn k (kindAt n .whenStopped) ≡ false
-stopped-not-in ByTicks = on-numbers (λ _ x. waitsIn ByTicks (x .whenStopped)) (λ _ _. false) refl (λ n e. ap (λ (x : Kind). isIn ByTicks (x .chain)) e)
-stopped-not-in ByDate = on-numbers (λ _ x. waitsIn ByDate (x .whenStopped)) (λ _ _. false) refl (λ n e. ap (λ (x : Kind). isIn ByDate (x .chain)) e)
+stopped-not-in ByTicks = stopped-not-on ByTicks refl
+stopped-not-in ByDate = stopped-not-on ByDate refl
+stopped-not-in Queue = stopped-not-on Queue refl
 
 -- the start was periodic
 abbrev pub periodic : Option Mode → Bool
 periodic none = false
 periodic (some m) = isPeriodic m
 
--- a timer that fired waits again where it is periodic, in the interval chain
+-- a timer that fired waits again where it is periodic, in the interval chain, and where it is a server timer, in the queue
 pub again-by-ticks : (n : ℕ) → waitsIn ByTicks n ≡ true → waitsIn ByTicks (kindAt n .whenFired) ≡ periodic (kindAt n .last)
 again-by-ticks = of-chain ByTicks (λ x. waitsIn ByTicks (x .whenFired)) (λ x. periodic (x .last)) refl
 
--- none waits in the dated chain, and none that was in it waits
+pub ticks-queued : (n : ℕ) → waitsIn ByTicks n ≡ true → waitsIn Queue (kindAt n .whenFired) ≡ forServer (kindAt n .last)
+ticks-queued = of-chain ByTicks (λ x. waitsIn Queue (x .whenFired)) (λ x. forServer (x .last)) refl
+
+pub dated-queued : (n : ℕ) → waitsIn ByDate n ≡ true → waitsIn Queue (kindAt n .whenFired) ≡ forServer (kindAt n .last)
+dated-queued = of-chain ByDate (λ x. waitsIn Queue (x .whenFired)) (λ x. forServer (x .last)) refl
+
+-- none waits in the dated chain; none that was in it waits for ticks, and none that was queued waits
 pub again-not-dated : (n : ℕ) → waitsIn ByDate (kindAt n .whenFired) ≡ false
 again-not-dated = on-numbers (λ _ x. waitsIn ByDate (x .whenFired)) (λ _ _. false) refl (λ n e. ap (λ (x : Kind). isIn ByDate (x .chain)) e)
 
-pub dated-not-again : (k : Chain) (n : ℕ) → waitsIn ByDate n ≡ true → waitsIn k (kindAt n .whenFired) ≡ false
-dated-not-again ByTicks = of-chain ByDate (λ x. waitsIn ByTicks (x .whenFired)) (λ _. false) refl
-dated-not-again ByDate = of-chain ByDate (λ x. waitsIn ByDate (x .whenFired)) (λ _. false) refl
+pub dated-not-again : (n : ℕ) → waitsIn ByDate n ≡ true → waitsIn ByTicks (kindAt n .whenFired) ≡ false
+dated-not-again = of-chain ByDate (λ x. waitsIn ByTicks (x .whenFired)) (λ _. false) refl
+
+pub queued-not-again : (k : Chain) (n : ℕ) → waitsIn Queue n ≡ true → waitsIn k (kindAt n .whenFired) ≡ false
+queued-not-again ByTicks = of-chain Queue (λ x. waitsIn ByTicks (x .whenFired)) (λ _. false) refl
+queued-not-again ByDate = of-chain Queue (λ x. waitsIn ByDate (x .whenFired)) (λ _. false) refl
+queued-not-again Queue = of-chain Queue (λ x. waitsIn Queue (x .whenFired)) (λ _. false) refl
 
 -- a timer in the interval chain was last started by interval
 pub in-ticks : (n : ℕ) → waitsIn ByTicks n ≡ true → lastByTicks n ≡ true
@@ -137,14 +163,15 @@ stopped-last = on-numbers (λ _ x. kindAt (x .whenStopped) .last) (λ _ x. x .la
 pub fired-last : (n : ℕ) → kindAt (kindAt n .whenFired) .last ≡ kindAt n .last
 fired-last = on-numbers (λ _ x. kindAt (x .whenFired) .last) (λ _ x. x .last) refl (λ n e. ap (λ (x : Kind). x .last) e)
 
--- free stays free, never started stays so, and started stays started
+-- free stays free, never started stays so, started stays started, and none becomes a server timer that was none
 pub record Alike (n m : ℕ) : Type 0 where
   pub is-kind : m < length kinds
   pub low : n ≤ 1 → m ≡ n
   pub high : 2 ≤ n → 2 ≤ m
+  pub server : 8 ≤ m → 8 ≤ n
 
 abbrev alikeTests : ℕ → ℕ → List Bool
-alikeTests n m = ltb m (length kinds) ∷ cond (leb n 1) (eqb m n) (leb 2 m) ∷ []
+alikeTests n m = ltb m (length kinds) ∷ cond (leb n 1) (eqb m n) (leb 2 m) ∷ cond (leb 8 m) (leb 8 n) true ∷ []
 
 alike : (n m : ℕ) → allOf (alikeTests n m) ≡ true → Alike n m
 alike n m e =
@@ -153,6 +180,7 @@ alike n m e =
       is-kind = ltb-true m (length kinds) (t 0);
       low = λ p. eqb-true m n (subst (λ (b : Bool). cond b (eqb m n) (leb 2 m) ≡ true) (le-leb n 1 p) (t 1));
       high = λ p. leb-true 2 m (subst (λ (b : Bool). cond b (eqb m n) (leb 2 m) ≡ true) (lt-leb n 1 p) (t 1));
+      server = λ p. leb-true 8 n (subst (λ (b : Bool). cond b (leb 8 n) true ≡ true) (le-leb 8 m p) (t 2));
     }
 
 pub stopped-alike : (n : ℕ) → n < length kinds → Alike n (kindAt n .whenStopped)
@@ -160,6 +188,15 @@ stopped-alike n p = alike n (kindAt n .whenStopped) (on-kinds (λ n x. allOf (al
 
 pub fired-alike : (n : ℕ) → n < length kinds → Alike n (kindAt n .whenFired)
 fired-alike n p = alike n (kindAt n .whenFired) (on-kinds (λ n x. allOf (alikeTests n (x .whenFired))) (λ _ _. true) refl n p)
+
+-- a timer that is started again as it was becomes no server timer, where it was none
+abbrev againTest : ℕ → Kind → Bool
+againTest n x = cond (leb 8 (waitingKind (modeOrAfter (x .last)))) (leb 8 n) true
+
+pub again-server : (n : ℕ) → n < length kinds → 8 ≤ waitingKind (modeOrAfter (kindAt n .last)) → 8 ≤ n
+again-server n p q =
+    leb-true 8 n (subst (λ (b : Bool). cond b (leb 8 n) true ≡ true) (le-leb 8 (waitingKind (modeOrAfter (kindAt n .last))) q)
+    (on-kinds againTest (λ _ _. true) refl n p))
 
 -- a timer that was last started by ticks has been started
 pub timed-started : (n : ℕ) → lastByTicks n ≡ true → 2 ≤ n
@@ -181,13 +218,27 @@ pub mode-in : (m : Mode) (k : Chain) → waitsIn k (waitingKind m) ≡ sameChain
 mode-in After k = refl
 mode-in When k = refl
 mode-in Every k = refl
+mode-in ServerAfter k = refl
+mode-in ServerWhen k = refl
 
 pub mode-last : (m : Mode) → kindAt (waitingKind m) .last ≡ some m
 mode-last After = refl
 mode-last When = refl
 mode-last Every = refl
+mode-last ServerAfter = refl
+mode-last ServerWhen = refl
 
 pub mode-kind : (m : Mode) → (2 ≤ waitingKind m) × (waitingKind m < length kinds)
 mode-kind After = (omega arith, omega arith)
 mode-kind When = (omega arith, omega arith)
 mode-kind Every = (omega arith, omega arith)
+mode-kind ServerAfter = (omega arith, omega arith)
+mode-kind ServerWhen = (omega arith, omega arith)
+
+-- no start waits in the queue
+pub not-queue : (m : Mode) → sameChain Queue (chainFor m) ≡ false
+not-queue After = refl
+not-queue When = refl
+not-queue Every = refl
+not-queue ServerAfter = refl
+not-queue ServerWhen = refl

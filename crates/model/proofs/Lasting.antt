@@ -9,10 +9,10 @@ use lib.ListN.{length, replicate}
 use lib.Dec.{leb, ltb, eqb}
 use borrow.Author.Tests.{eqb-true, eqb-false, eq-eqb, ne-eqb}
 use Rattle.calendar.specs.Calendar.{allOf, secondsOf}
-use Rattle.model.specs.Calls.{Call, layOut, create, ident, cancel, delete, fireAfter, fireWhen, fireEvery, reset, ticksLeft, tick, setClock, getClock}
-use Rattle.model.specs.Kinds.{Kind, Mode, After, When, Every, Chain, ByTicks, ByDate, kindAt, waitingKind, lastMode}
+use Rattle.model.specs.Calls.{Call, layOut, create, ident, cancel, delete, fireAfter, fireWhen, fireEvery, reset, ticksLeft, tick, setClock, getClock, initiateServer, serverFireAfter, serverFireWhen, serve}
+use Rattle.model.specs.Kinds.{Kind, Mode, After, When, Every, ServerAfter, ServerWhen, Chain, ByTicks, ByDate, Queue, kindAt, waitingKind, lastMode}
 use Rattle.model.specs.State.{Slot, Link, State, withClock, free, slotAt, putAt, idBase, indexOf, names}
-use Rattle.model.specs.Directives.{lowestFree, laidOut, stored, neverStarted, stopped, idled, waitingAs, started, fired, firedAll, due, fire, nearer, clockAt, clockStep, effect}
+use Rattle.model.specs.Directives.{lowestFree, laidOut, stored, neverStarted, stopped, idled, waitingAs, started, fired, firedAll, due, fire, front, handedOut, nearer, clockAt, clockStep, effect}
 use Rattle.model.specs.Words.{sumOf, read}
 use Rattle.model.specs.Sound.{sound}
 use Rattle.model.specs.Outcome.{Outcome, statusOn, outcome}
@@ -24,7 +24,7 @@ use Rattle.model.proofs.Slots.{at-same, at-other, length-put, field-put
 use Rattle.model.proofs.WellFormed.{timesIn}
 use Rattle.model.proofs.Chains.{times-without}
 use Rattle.model.proofs.Searches.{found}
-use Rattle.model.proofs.GoingBack.{with-chain-slots}
+use Rattle.model.proofs.GoingOn.{with-chain-slots}
 use Rattle.model.proofs.Steps.{fire-slots}
 use Rattle.model.proofs.AcceptedCalls.{Named, named, named-true, Accepted, accepted-facts}
 use Rattle.model.proofs.OutcomeLaws.{status-is, outcome-accepted}
@@ -154,6 +154,12 @@ lasts-step words s (setClock w list) p id =
     same-names s (effect s (setClock w list) .state)
     (fire-free ByDate (secondsOf w) (withClock s (clockAt (s .clock) (secondsOf w) 0))) id
 lasts-step words s getClock p id = refl
+lasts-step words s initiateServer p id = refl
+lasts-step words s (serverFireAfter d n r u) p id =
+    same-names s (started ServerAfter s (indexOf d) n r u) (start-free s ServerAfter d n r u (p .1 .names-one)) id
+lasts-step words s (serverFireWhen d w r u) p id =
+    same-names s (started ServerWhen s (indexOf d) (secondsOf w) r u) (start-free s ServerWhen d (secondsOf w) r u (p .1 .names-one)) id
+lasts-step words s (serve list) p id = same-names s (handedOut s) (fired-slots (front s) (s .slots)) id
 
 module _ (t : List ℕ) (ok : sound t ≡ true) where
   facts : (c : Call) → statusOn t c ≡ 0 → Accepted t (read t) c
@@ -179,4 +185,4 @@ module _ (t : List ℕ) (ok : sound t ≡ true) where
       subst (λ (d : Call). statusOn t d ≡ 0 → sumOf (λ _ l. timesIn l (indexOf id)) (read (outcome t d .table)) ≡ 0) (sym is)
       (λ e.
       ap (sumOf (λ _ l. timesIn l (indexOf id))) (state-left t ok (cancel id) e)
-      ∙ omega (arith, times-without (indexOf id) (read t .ticking), times-without (indexOf id) (read t .dated)))
+      ∙ omega (arith, times-without (indexOf id) (read t .ticking), times-without (indexOf id) (read t .dated), times-without (indexOf id) (read t .queue)))

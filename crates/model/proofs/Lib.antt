@@ -16,12 +16,13 @@ pub mod HoldsSound
 pub mod ClockSteps
 pub mod FiredSlots
 pub mod Searches
-pub mod GoingBack
+pub mod GoingOn
 pub mod Steps
 pub mod AcceptedCalls
 pub mod KeptWellFormed
 pub mod HistoryLaws
 pub mod ChainLaws
+pub mod QueueLaws
 pub mod ClockLaws
 pub mod Simulation
 pub mod ClockSimulation
@@ -33,5 +34,8 @@ pub mod ListWords
 pub mod Demand3
 pub mod Readings
 pub mod CallReadings
+pub mod QueueReadings
 pub mod Cases
 pub mod WorkedCases
+pub mod ServerCases
+pub mod EveryKind

@@ -5,11 +5,11 @@ use Prim.Native.Nat.{ℕ, _+_, _-_, _*_, _≤_, zero-le}
 use native.Mathlib.Omega.{arith}
 use mathlib.Core.Bool.{true}
 use mathlib.Core.List.{List, [], _∷_, _++_, map, append-assoc}
-use lib.ListN.{length, getD, drop, length-map, length-append, length-drop}
+use lib.ListN.{length, getD, drop, length-map, length-append, length-take, length-drop}
 use lib.Seq.{getD-drop, getD-append-add}
 use lib.Dec.{eqb}
 use borrow.Author.Tests.{eqb-true, eqb-false}
-use Rattle.model.specs.Calls.{Call, layOut, create, ident, cancel, delete, fireAfter, fireWhen, fireEvery, reset, ticksLeft, tick, setClock, getClock, lentTo}
+use Rattle.model.specs.Calls.{Call, layOut, create, ident, cancel, delete, fireAfter, fireWhen, fireEvery, reset, ticksLeft, tick, setClock, getClock, initiateServer, serverFireAfter, serverFireWhen, serve, lentTo}
 use Rattle.model.specs.State.{State, Fired, listed}
 use Rattle.model.specs.Directives.{effect}
 use Rattle.model.specs.Words.{word, read, slotCount}
@@ -77,6 +77,10 @@ fits words s h (ticksLeft id) p = zero-le
 fits words s h (tick list) p = omega (arith, p, bound s h (tick list))
 fits words s h (setClock w list) p = omega (arith, p .0, bound s h (setClock w list))
 fits words s h getClock p = zero-le
+fits words s h initiateServer p = zero-le
+fits words s h (serverFireAfter id n r u) p = zero-le
+fits words s h (serverFireWhen id w r u) p = zero-le
+fits words s h (serve list) p = omega (arith, p .1, length-take 1 (s .queue))
 
 module _ (t : List ℕ) (ok : sound t ≡ true) (c : Call) where
   pub list-begins : statusOn t c ≡ 0 → Begins (outcome t c .list) (lentTo c) (map (listed (read t .slots)) (effect (read t) c .fired))

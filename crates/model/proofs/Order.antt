@@ -1,14 +1,14 @@
 -- The order "by a number, the earlier first among equals" as a function: each element in turn is put into its place among those before it.
 -- It meets `InOrder`, which is how demand 3 states the order. Assumes nothing.
-use mathlib.Core.Path.{_≡_, refl, sym, ap, ap₂, _∙_}
-use Prim.Native.Nat.{ℕ, _+_, _≤_}
+use mathlib.Core.Path.{_≡_, refl, sym, ap, ap₂, _∙_, subst}
+use Prim.Native.Nat.{ℕ, _+_, _≤_, _<_}
 use native.Mathlib.Omega.{arith}
-use mathlib.Core.Bool.{Bool}
-use mathlib.Core.List.{List, [], _∷_, _++_, map, append-assoc, append-nil}
+use mathlib.Core.Bool.{Bool, false}
+use mathlib.Core.List.{List, [], _∷_, _++_, map, append-assoc, append-nil, head-eq-of-cons-eq, tail-eq-of-cons-eq, nil≢cons, cons≢nil}
 use lib.Dec.{leb, eqb}
-use borrow.Author.Tests.{eqb-true}
+use borrow.Author.Tests.{leb-true, leb-false, eqb-true, eqb-false, eq-eqb, ne-eqb}
 use Rattle.model.specs.Lists.{keep, count, place, All, Sorted, InOrder}
-use Rattle.model.proofs.ListLaws.{cases, all, all-map, all-passed, all-place, sorted-place, keep-place, place-last, map-place, count-place}
+use Rattle.model.proofs.ListLaws.{cases, all, all-map, keep-none, all-passed, all-place, sorted-place, keep-place, place-last, map-place, count-place}
 
 module _ {A : Type 0} where
   abbrev pub orderOn : (A → ℕ) → List A → List A → List A
@@ -39,7 +39,7 @@ module _ {A : Type 0} where
   pub sorted-order : (key : A → ℕ) (l : List A) → Sorted key (order key l)
   sorted-order key l = sorted-orderOn key [] l tt
 
-  keep-orderOn : (key : A → ℕ) (p : A → Bool) (acc l : List A) → Sorted key acc
+  pub keep-orderOn : (key : A → ℕ) (p : A → Bool) (acc l : List A) → Sorted key acc
       → keep p (orderOn key acc l) ≡ orderOn key (keep p acc) (keep p l)
   keep-orderOn key p acc [] h = refl
   keep-orderOn key p acc (x ∷ xs) h =
@@ -87,3 +87,45 @@ module _ {A B : Type 0} where
       on acc (x ∷ xs) p q =
           on (place key x acc) xs (all-place P key x acc (q .0) p) (q .1)
           ∙ rw (map-place f key key′ x acc (all-map (λ y r. h x y (q .0) r) acc p))
+
+-- ---- the order leaves one list only
+
+module _ {A : Type 0} (key : A → ℕ) where
+  above : (k : ℕ) (x : A) (l : List A) → k < key x → Sorted key (x ∷ l) → keep (λ y. eqb (key y) k) (x ∷ l) ≡ []
+  above k x l p s = keep-none (λ y. eqb (key y) k) (x ∷ l)
+      (ne-eqb (key x) k (λ e. omega arith), all-map (λ y q. ne-eqb (key y) k (λ e. omega arith)) l (s .0))
+
+  own : (x : A) (l : List A) → keep (λ y. eqb (key y) (key x)) (x ∷ l) ≡ x ∷ keep (λ y. eqb (key y) (key x)) l
+  own x l = rw (eq-eqb (key x) (key x) refl)
+
+  one-sorted : (l m : List A) → Sorted key l → Sorted key m → ((k : ℕ) → keep (λ x. eqb (key x) k) l ≡ keep (λ x. eqb (key x) k) m) → l ≡ m
+  one-sorted [] [] p q h = refl
+  one-sorted [] (y ∷ ys) p q h = absurd (nil≢cons (h (key y) ∙ own y ys))
+  one-sorted (x ∷ xs) [] p q h = absurd (cons≢nil (sym (own x xs) ∙ h (key x)))
+  one-sorted (x ∷ xs) (y ∷ ys) p q h =
+      cases (eqb (key y) (key x))
+      (λ e.
+      let same : x ∷ keep (λ z. eqb (key z) (key x)) xs ≡ y ∷ keep (λ z. eqb (key z) (key x)) ys =
+      sym (own x xs) ∙ h (key x) ∙ rw e in
+      ap₂ {C = List A} (λ a r. a ∷ r) (head-eq-of-cons-eq same)
+      (one-sorted xs ys (p .1) (q .1) (λ k.
+      cases (eqb (key x) k)
+      (λ f.
+      let g = eqb-true (key x) k f in
+      subst (λ (j : ℕ). keep (λ z. eqb (key z) j) xs ≡ keep (λ z. eqb (key z) j) ys) g (tail-eq-of-cons-eq same))
+      (λ f.
+      let f′ : eqb (key y) k ≡ false = ap (λ (j : ℕ). eqb j k) (eqb-true (key y) (key x) e) ∙ f in
+      sym (rw f) ∙ h k ∙ rw f′))))
+      (λ e.
+      cases (leb (key x) (key y))
+      (λ f.
+      let lt : key x < key y = below (key x) (key y) (leb-true (key x) (key y) f) (eqb-false (key y) (key x) e) in
+      absurd (cons≢nil (sym (own x xs) ∙ h (key x) ∙ above (key x) y ys lt q)))
+      (λ f.
+      absurd (nil≢cons (sym (above (key y) x xs (leb-false (key x) (key y) f) p) ∙ h (key y) ∙ own y ys))))
+    where
+      below : (a b : ℕ) → a ≤ b → (b ≡ a → ⊥) → a < b
+      below a b p q = omega arith
+
+  pub one-order : (l m n : List A) → InOrder key l m → InOrder key l n → m ≡ n
+  one-order l m n p q = one-sorted m n (p .rising) (q .rising) (λ k. p .same k ∙ sym (q .same k))

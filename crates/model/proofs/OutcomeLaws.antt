@@ -6,7 +6,7 @@ use mathlib.Core.List.{List}
 use lib.Dec.{eqb}
 use borrow.Author.Tests.{eqb-true, eqb-false, eq-eqb, ne-eqb}
 use Rattle.model.specs.Status.{Status, numberOf, firstOf}
-use Rattle.model.specs.Calls.{Call, layOut, create, ident, cancel, delete, fireAfter, fireWhen, fireEvery, reset, ticksLeft, tick, setClock, getClock, isLayOut}
+use Rattle.model.specs.Calls.{Call, layOut, create, ident, cancel, delete, fireAfter, fireWhen, fireEvery, reset, ticksLeft, tick, setClock, getClock, initiateServer, serverFireAfter, serverFireWhen, serve, isLayOut}
 use Rattle.model.specs.Directives.{refusals}
 use Rattle.model.specs.Words.{read}
 use Rattle.model.specs.Outcome.{Outcome, statusOn, refused, accepted, outcome}
@@ -28,6 +28,10 @@ each-call P lay other (ticksLeft id) = other (ticksLeft id) refl
 each-call P lay other (tick list) = other (tick list) refl
 each-call P lay other (setClock w list) = other (setClock w list) refl
 each-call P lay other getClock = other getClock refl
+each-call P lay other initiateServer = other initiateServer refl
+each-call P lay other (serverFireAfter id n r u) = other (serverFireAfter id n r u) refl
+each-call P lay other (serverFireWhen id w r u) = other (serverFireWhen id w r u) refl
+each-call P lay other (serve list) = other (serve list) refl
 
 pub status-is : (t : List ℕ) (c : Call) → statusOn t c ≡ firstOf (refusals t (read t) c)
 unfolding statusOn

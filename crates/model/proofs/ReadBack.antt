@@ -9,7 +9,7 @@ use lib.ListN.{length, getD, drop, length-reverse}
 use lib.Seq.{ext-getD}
 use lib.Dec.{eqb}
 use Rattle.model.specs.Lists.{count, All, Sorted}
-use Rattle.model.specs.Kinds.{Chain, ByTicks, ByDate}
+use Rattle.model.specs.Kinds.{Chain, ByTicks, ByDate, Queue}
 use Rattle.model.specs.State.{Link, State, chainOf, free, slotAt}
 use Rattle.model.specs.Words.{first, write, writtenOver, word, headWord, along, accumulated, linksFrom, links, slotFrom, slotsFrom, read, slotCount, clockSet, ticksInto, waitOf, nextOf, previousOf}
 use Rattle.model.proofs.ListLaws.{all-map, all}
@@ -118,12 +118,15 @@ module _ (t : List ℕ) (s : State) (h : Holds t s) where
   slots-is = ext-getD free (read t .slots) (s .slots) (slots-length t ∙ count-is) (λ j p.
       slot-read t (suc j) (omega arith) (omega (arith, slots-length t)) ∙ parts .slots (suc j) (omega arith) (omega (arith, slots-length t, count-is)))
 
+  bit : (b : Bool) → eqb (cond b 1 0) 1 ≡ b
+  bit true = refl
+  bit false = refl
+
   pub set-is : eqb (clockSet t) 1 ≡ s .clock .isSet
   set-is = ap (λ (n : ℕ). eqb n 1) (heads 2 (omega arith)) ∙ bit (s .clock .isSet)
-    where
-      bit : (b : Bool) → eqb (cond b 1 0) 1 ≡ b
-      bit true = refl
-      bit false = refl
+
+  pub server-is : eqb (word t 8) 1 ≡ s .server
+  server-is = ap (λ (n : ℕ). eqb n 1) (heads 8 (omega arith)) ∙ bit (s .server)
 
   pub read-back : read t ≡ s
   read-back = λ d. record {
@@ -136,6 +139,8 @@ module _ (t : List ℕ) (s : State) (h : Holds t s) where
     };
     ticking = links-is ByTicks d;
     dated = links-is ByDate d;
+    server = server-is d;
+    queue = links-is Queue d;
   }
 
 -- ---- a state written over a slice

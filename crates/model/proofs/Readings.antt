@@ -6,75 +6,34 @@ use native.Mathlib.Nat.{mul-mod-left, div-add-mod', add-zero}
 use native.Mathlib.Omega.{arith}
 use mathlib.Core.Bool.{Bool, true, false, not, _&&_, _||_, and-true}
 use mathlib.Core.Option.{Option, none, some}
-use mathlib.Core.List.{List, [], _∷_, _++_, map, List·Memᴰ, List·Memᴰ·head, List·Memᴰ·tail, Memᴰ·append-left, Memᴰ·append-right, Memᴰ·map, Memᴰ·cast, head-eq-of-cons-eq, tail-eq-of-cons-eq, nil≢cons, cons≢nil}
+use mathlib.Core.List.{List, [], _∷_, _++_, map, List·Memᴰ, List·Memᴰ·head, List·Memᴰ·tail, Memᴰ·append-left, Memᴰ·append-right, Memᴰ·map, Memᴰ·cast}
+use lib.ListN.{take}
 use lib.Dec.{leb, eqb}
-use borrow.Author.Tests.{leb-true, leb-false, eqb-true, eqb-false, eq-eqb, ne-eqb}
+use borrow.Author.Tests.{eqb-true, leb-true, leb-false, eq-eqb, ne-eqb}
 use Rattle.calendar.specs.declared.WallTime.{WallTime}
 use Rattle.calendar.specs.Calendar.{secondsOf}
 use Rattle.model.specs.Lists.{goesBehind, keep, any, place, All, Sorted, InOrder}
 use Rattle.model.specs.Calls.{Call, layOut, tick, setClock, lentTo}
-use Rattle.model.specs.Kinds.{Chain, ByTicks, ByDate, After, When, Every, chainFor, isPeriodic, sameChain}
+use Rattle.model.specs.Kinds.{Chain, ByTicks, ByDate, Queue, Mode, After, When, Every, ServerAfter, ServerWhen, chainFor, isPeriodic, isServer, sameChain}
 use Rattle.model.specs.State.{withClock, Fired}
-use Rattle.model.specs.History.{Start, startOf, Event, changes, oneTick, eventOf, clockSetTo, startIn, isTick, ticks, past, movesClock, Placed, withEvent, placed, starts, ends, wasEnded, isDue, wasDueIn, wasDue, fires, goesBack, inTurn, inChain, ticksLeftOrDate, entry}
+use Rattle.model.specs.History.{Start, startOf, Event, changes, oneTick, eventOf, clockSetTo, startIn, isTick, ticks, past, movesClock, Placed, withEvent, placed, starts, ends, wasEnded, dueIn, isDue, wasDueIn, wasDue, comesDue, isQueued, fires, goesBack, inTurn, inChain, ticksLeftOrDate, entryOf, entry, servesIn, Queues, IsQueue}
 use Rattle.model.specs.Directives.{clockAt, effect}
 use Rattle.model.specs.Words.{writtenOver, links, read}
 use Rattle.model.specs.Sound.{sound}
 use Rattle.model.specs.Outcome.{Outcome, statusOn, outcome}
 use Rattle.model.specs.Demand.{after, Begins, eventsAfter}
 use Rattle.model.proofs.ListLaws.{cases, clash, both, all-map, all-append, all-keep, all-passed, all-zip, keep-none}
-use Rattle.model.proofs.Order.{order, orderOn, all-orderOn, order-in-order}
+use Rattle.model.proofs.Order.{order, orderOn, all-orderOn, order-in-order, one-order}
 use Rattle.model.proofs.ReadBack.{links-is}
 use Rattle.model.proofs.HistoryLaws.{all-starts, fewer}
-use Rattle.model.proofs.KindLaws.{dated-not-again}
+use Rattle.model.proofs.KindLaws.{dated-not-again, not-queue}
 use Rattle.model.proofs.SoundHolds.{sound-holds}
 use Rattle.model.proofs.Steps.{fire-elsewhere, chained-with-clock}
 use Rattle.model.proofs.OutcomeLaws.{outcome-accepted, outcome-status}
 use Rattle.model.proofs.CallTables.{effect-holds}
 use Rattle.model.proofs.Demand3.{demand3}
 
--- ---- 1. The order leaves one list only.
-
-module _ {A : Type 0} (key : A → ℕ) where
-  above : (k : ℕ) (x : A) (l : List A) → k < key x → Sorted key (x ∷ l) → keep (λ y. eqb (key y) k) (x ∷ l) ≡ []
-  above k x l p s = keep-none (λ y. eqb (key y) k) (x ∷ l)
-      (ne-eqb (key x) k (λ e. omega arith), all-map (λ y q. ne-eqb (key y) k (λ e. omega arith)) l (s .0))
-
-  own : (x : A) (l : List A) → keep (λ y. eqb (key y) (key x)) (x ∷ l) ≡ x ∷ keep (λ y. eqb (key y) (key x)) l
-  own x l = rw (eq-eqb (key x) (key x) refl)
-
-  one-sorted : (l m : List A) → Sorted key l → Sorted key m → ((k : ℕ) → keep (λ x. eqb (key x) k) l ≡ keep (λ x. eqb (key x) k) m) → l ≡ m
-  one-sorted [] [] p q h = refl
-  one-sorted [] (y ∷ ys) p q h = absurd (nil≢cons (h (key y) ∙ own y ys))
-  one-sorted (x ∷ xs) [] p q h = absurd (cons≢nil (sym (own x xs) ∙ h (key x)))
-  one-sorted (x ∷ xs) (y ∷ ys) p q h =
-      cases (eqb (key y) (key x))
-      (λ e.
-      let same : x ∷ keep (λ z. eqb (key z) (key x)) xs ≡ y ∷ keep (λ z. eqb (key z) (key x)) ys =
-      sym (own x xs) ∙ h (key x) ∙ rw e in
-      ap₂ {C = List A} (λ a r. a ∷ r) (head-eq-of-cons-eq same)
-      (one-sorted xs ys (p .1) (q .1) (λ k.
-      cases (eqb (key x) k)
-      (λ f.
-      let g = eqb-true (key x) k f in
-      subst (λ (j : ℕ). keep (λ z. eqb (key z) j) xs ≡ keep (λ z. eqb (key z) j) ys) g (tail-eq-of-cons-eq same))
-      (λ f.
-      let f′ : eqb (key y) k ≡ false = ap (λ (j : ℕ). eqb j k) (eqb-true (key y) (key x) e) ∙ f in
-      sym (rw f) ∙ h k ∙ rw f′))))
-      (λ e.
-      cases (leb (key x) (key y))
-      (λ f.
-      let lt : key x < key y = below (key x) (key y) (leb-true (key x) (key y) f) (eqb-false (key y) (key x) e) in
-      absurd (cons≢nil (sym (own x xs) ∙ h (key x) ∙ above (key x) y ys lt q)))
-      (λ f.
-      absurd (nil≢cons (sym (above (key y) x xs (leb-false (key x) (key y) f) p) ∙ h (key y) ∙ own y ys))))
-    where
-      below : (a b : ℕ) → a ≤ b → (b ≡ a → ⊥) → a < b
-      below a b p q = omega arith
-
-  pub one-order : (l m n : List A) → InOrder key l m → InOrder key l n → m ≡ n
-  one-order l m n p q = one-sorted m n (p .rising) (q .rising) (λ k. p .same k ∙ sym (q .same k))
-
--- ---- 2. A start of the list is a place in it.
+-- ---- 1. A start of the list is a place in it.
 
 pub record From (es : List Event) (g : Placed) : Type 0 where
   pub earlier : List Event
@@ -98,24 +57,29 @@ starts-from (e ∷ es) =
     go none f = tt
     go (some s) f = (record { earlier = es; event = e; split = refl; is-start = f; upto = refl }, tt)
 
--- ---- 3. Nothing is listed but what was started, is due there and was not ended.
+-- ---- 2. Nothing is listed but what was started, is due there and was not ended.
 
 pub record Listed (es : List Event) (e : Event) (g : Placed) : Type 0 where
   pub place : From es g
   pub not-ended : wasEnded g ≡ false
   pub not-due-before : isPeriodic (g .begun .mode) ≡ false → wasDue g ≡ false
   pub due : isDue e g ≡ true
+  pub no-server : isServer (g .begun .mode) ≡ false
 
 listed-of : (es : List Event) (e : Event) (g : Placed) → From es g → fires e g ≡ true → Listed es e g
 listed-of es e g p f =
-    let all-three = three (wasEnded g) (isPeriodic (g .begun .mode)) (wasDue g) (isDue e g) f in
-    record { place = p; not-ended = all-three .0; not-due-before = all-three .1; due = all-three .2 }
+    let r = all-four (wasEnded g) (isPeriodic (g .begun .mode)) (wasDue g) (isDue e g) (isServer (g .begun .mode)) f in
+    record { place = p; not-ended = r .0; not-due-before = r .1; due = r .2; no-server = r .3 }
   where
-    three : (a p b c : Bool) → ((not a && (p || not b)) && c) ≡ true → (a ≡ false) × (p ≡ false → b ≡ false) × (c ≡ true)
-    three true p b c f = clash (sym f)
-    three false true b c f = (refl, λ e. clash e, f)
-    three false false true c f = clash (sym f)
-    three false false false c f = (refl, λ e. refl, f)
+    all-four : (a p b c q : Bool) → (((not a && (p || not b)) && c) && not q) ≡ true → (a ≡ false) × (p ≡ false → b ≡ false) × (c ≡ true) × (q ≡ false)
+    all-four true p b c q f = clash (sym f)
+    all-four false true b true true f = clash (sym f)
+    all-four false true b true false f = (refl, λ e. clash e, refl, refl)
+    all-four false true b false q f = clash (sym f)
+    all-four false false true c q f = clash (sym f)
+    all-four false false false true true f = clash (sym f)
+    all-four false false false true false f = (refl, λ e. refl, refl, refl)
+    all-four false false false false q f = clash (sym f)
 
 pub only-due : (k : Chain) (es : List Event) (e : Event) (l : List Placed) → InOrder ticksLeftOrDate (keep (inChain k) (keep (fires e) (starts es))) l
     → All (Listed es e) l
@@ -128,7 +92,7 @@ only-due k es e l o =
     S : List Placed
     S = keep (fires e) (starts es)
 
--- ---- 4. A start for n ticks fires at the nth tick after it, unless it was ended, and neither earlier nor later.
+-- ---- 3. A start for n ticks fires at the nth tick after it, unless it was ended, and neither earlier nor later.
 
 -- the start s after the events P, with Q after it
 abbrev pub startAt : List Event → ℕ → Start → List Event → Placed
@@ -137,28 +101,37 @@ startAt P id s Q = record { begun = s; before = changes id (some s) ∷ P; after
 abbrev pub forTicks : ℕ → ℕ → ℕ → ℕ → Start
 forTicks timer n r u = startOf timer After n r u
 
-module _ (P Q : List Event) (id timer n r u : ℕ) (some-ticks : 0 < n) where
+-- a start that is due once, at the nth tick after it
+module _ (m : Mode) (n : ℕ) (single : isPeriodic m ≡ false)
+    (nth : (e : Event) (before after : List Event) → dueIn m n e before after ≡ (isTick e && eqb (suc (ticks after)) n)) (some-ticks : 0 < n)
+    (P Q : List Event) (id timer r u : ℕ) where
+  abbrev s : Start
+  s = startOf timer m n r u
+
   -- it was not due while fewer than n ticks had passed
-  not-yet : (before after : List Event) → ticks after < n → wasDueIn (forTicks timer n r u) before after ≡ false
+  not-yet : (before after : List Event) → ticks after < n → wasDueIn s before after ≡ false
   not-yet before [] p = refl
   not-yet before (e ∷ after) p =
       cases (isTick e)
       (λ t.
       let q : suc (ticks after) < n = rw t at p in
-      rw (t, ne-eqb (suc (ticks after)) n (λ z. omega arith)) (not-yet before after (omega arith)))
-      (λ t. rw t (not-yet before after (rw t at p)))
+      rw (nth e before after, t, ne-eqb (suc (ticks after)) n (λ z. omega arith)) (not-yet before after (omega arith)))
+      (λ t. rw (nth e before after, t) (not-yet before after (rw t at p)))
 
-  pub at-nth-tick : (e : Event) → fires e (startAt P id (forTicks timer n r u) Q)
-      ≡ (not (any (ends timer) Q) && (isTick e && eqb (suc (ticks Q)) n))
-  at-nth-tick e =
+  due-at-nth : (e : Event) → comesDue e (startAt P id s Q) ≡ (not (any (ends timer) Q) && (isTick e && eqb (suc (ticks Q)) n))
+  due-at-nth e =
+      let B = changes id (some s) ∷ P in
+      let due : (b : Bool) → wasDueIn s B Q ≡ b → comesDue e (startAt P id s Q) ≡ ((not (any (ends timer) Q) && not b) && (isTick e && eqb (suc (ticks Q)) n)) =
+      λ b was.
+      ap₂ (λ (p c : Bool). (not (any (ends timer) Q) && (p || not (wasDueIn s B Q))) && c) single (nth e B Q)
+      ∙ ap (λ (c : Bool). (not (any (ends timer) Q) && not c) && (isTick e && eqb (suc (ticks Q)) n)) was in
       cases (leb n (ticks Q))
       (λ f.
       let past : n ≤ ticks Q = leb-true n (ticks Q) f in
-      let was : wasDueIn (forTicks timer n r u) (changes id (some (forTicks timer n r u)) ∷ P) Q ≡ true =
-      cases (wasDueIn (forTicks timer n r u) (changes id (some (forTicks timer n r u)) ∷ P) Q) (λ g. g)
-      (λ g. absurd (omega (arith, fewer (forTicks timer n r u) (changes id (some (forTicks timer n r u)) ∷ P) Q (λ x l. refl) some-ticks g))) in
-      rw (was, ne-eqb (suc (ticks Q)) n (λ z. omega arith)) (never (any (ends timer) Q) (isTick e)))
-      (λ f. rw (not-yet (changes id (some (forTicks timer n r u)) ∷ P) Q (leb-false n (ticks Q) f)) (now (any (ends timer) Q) (isTick e && eqb (suc (ticks Q)) n)))
+      let was : wasDueIn s B Q ≡ true =
+      cases (wasDueIn s B Q) (λ g. g) (λ g. absurd (omega (arith, fewer s B Q (λ x l. nth x B l) some-ticks g))) in
+      due true was ∙ rw (ne-eqb (suc (ticks Q)) n (λ z. omega arith)) (never (any (ends timer) Q) (isTick e)))
+      (λ f. due false (not-yet B Q (leb-false n (ticks Q) f)) ∙ now (any (ends timer) Q) (isTick e && eqb (suc (ticks Q)) n))
     where
       never : (a b : Bool) → ((not a && false) && (b && false)) ≡ (not a && (b && false))
       never true b = refl
@@ -168,6 +141,19 @@ module _ (P Q : List Event) (id timer n r u : ℕ) (some-ticks : 0 < n) where
       now : (a b : Bool) → ((not a && true) && b) ≡ (not a && b)
       now true b = refl
       now false b = refl
+
+module _ (P Q : List Event) (id timer n r u : ℕ) (some-ticks : 0 < n) where
+  pub at-nth-tick : (e : Event) → fires e (startAt P id (forTicks timer n r u) Q)
+      ≡ (not (any (ends timer) Q) && (isTick e && eqb (suc (ticks Q)) n))
+  at-nth-tick e =
+      and-true (comesDue e (startAt P id (forTicks timer n r u) Q)) ∙ due-at-nth After n refl (λ e before after. refl) some-ticks P Q id timer r u e
+
+  -- a server start is queued there
+  pub queued-at-nth-tick : (e : Event) → isQueued e (startAt P id (startOf timer ServerAfter n r u) Q)
+      ≡ (not (any (ends timer) Q) && (isTick e && eqb (suc (ticks Q)) n))
+  queued-at-nth-tick e =
+      and-true (comesDue e (startAt P id (startOf timer ServerAfter n r u) Q))
+      ∙ due-at-nth ServerAfter n refl (λ e before after. refl) some-ticks P Q id timer r u e
 
 -- A start for a date fires in just the tick or set clock that leaves the clock at or past it, where none did so before and it was not ended.
 abbrev pub forDate : ℕ → ℕ → ℕ → ℕ → Start
@@ -182,9 +168,23 @@ pub at-date : (P Q : List Event) (id timer d r u : ℕ) (e : Event) → let g = 
     fires e g ≡ ((not (any (ends timer) Q) && not (reached d (g .before) Q)) && (movesClock e && past d (e ∷ Q ++ g .before)))
 at-date P Q id timer d r u e =
     let B = changes id (some (forDate timer d r u)) ∷ P in
-    ap (λ (b : Bool). (not (any (ends timer) Q) && not b) && (movesClock e && past d (e ∷ Q ++ B))) (was B Q)
+    and-true (comesDue e (startAt P id (forDate timer d r u) Q))
+    ∙ ap (λ (b : Bool). (not (any (ends timer) Q) && not b) && (movesClock e && past d (e ∷ Q ++ B))) (was B Q)
   where
     was : (B Q : List Event) → wasDueIn (forDate timer d r u) B Q ≡ reached d B Q
+    was B [] = refl
+    was B (x ∷ Q) = ap (λ (b : Bool). (movesClock x && past d (x ∷ Q ++ B)) || b) (was B Q)
+
+-- a server start for a date is queued there
+pub queued-at-date : (P Q : List Event) (id timer d r u : ℕ) (e : Event) → let g = startAt P id (startOf timer ServerWhen d r u) Q in
+    isQueued e g ≡ ((not (any (ends timer) Q) && not (reached d (g .before) Q)) && (movesClock e && past d (e ∷ Q ++ g .before)))
+queued-at-date P Q id timer d r u e =
+    let s = startOf timer ServerWhen d r u in
+    let B = changes id (some s) ∷ P in
+    and-true (comesDue e (startAt P id s Q))
+    ∙ ap (λ (b : Bool). (not (any (ends timer) Q) && not b) && (movesClock e && past d (e ∷ Q ++ B))) (was B Q)
+  where
+    was : (B Q : List Event) → wasDueIn (startOf timer ServerWhen d r u) B Q ≡ reached d B Q
     was B [] = refl
     was B (x ∷ Q) = ap (λ (b : Bool). (movesClock x && past d (x ∷ Q ++ B)) || b) (was B Q)
 
@@ -192,9 +192,10 @@ at-date P Q id timer d r u e =
 pub at-every-nth : (P Q : List Event) (id timer n r u : ℕ) (e : Event) → fires e (startAt P id (startOf timer Every n r u) Q)
     ≡ (not (any (ends timer) Q) && (isTick e && eqb (suc (ticks Q) % n) 0))
 at-every-nth P Q id timer n r u e =
-    ap (λ (b : Bool). b && (isTick e && eqb (suc (ticks Q) % n) 0)) (and-true (not (any (ends timer) Q)))
+    and-true (comesDue e (startAt P id (startOf timer Every n r u) Q))
+    ∙ ap (λ (b : Bool). b && (isTick e && eqb (suc (ticks Q) % n) 0)) (and-true (not (any (ends timer) Q)))
 
--- ---- 5. What fires is listed.
+-- ---- 4. What fires is listed.
 
 mem-keep : {A : Type 0} (p : A → Bool) {x : A} (l : List A) → p x ≡ true → List·Memᴰ x l → List·Memᴰ x (keep p l)
 mem-keep p (y ∷ ys) e (List·Memᴰ·head q) = rw (ap p (sym q) ∙ e) (List·Memᴰ·head q)
@@ -230,25 +231,44 @@ start-placed P (x ∷ Q) id s =
     Memᴰ·append-left (placed (startIn x) (x ∷ Q ++ (changes id (some s) ∷ P)))
     (Memᴰ·map (withEvent x) (mem-turned x (starts (Q ++ (changes id (some s) ∷ P))) (start-placed P Q id s)))
 
+-- a start that passes a test is in the list, in firing order, of those of its chain that do
+in-its-list : (test : Placed → Bool) (k : Chain) (P Q : List Event) (id : ℕ) (s : Start) (l : List Placed) → sameChain k (chainFor (s .mode)) ≡ true
+    → test (startAt P id s Q) ≡ true → InOrder ticksLeftOrDate (keep (inChain k) (keep test (starts (Q ++ (changes id (some s) ∷ P))))) l
+    → List·Memᴰ (startAt P id s Q) l
+in-its-list test k P Q id s l here f o =
+    subst (λ (m : List Placed). List·Memᴰ (startAt P id s Q) m)
+    (one-order ticksLeftOrDate (keep (inChain k) S) (order ticksLeftOrDate (keep (inChain k) S)) l (order-in-order ticksLeftOrDate (keep (inChain k) S)) o)
+    (mem-order ticksLeftOrDate [] (keep (inChain k) S) (mem-keep (inChain k) {x = startAt P id s Q} S here
+    (mem-keep test {x = startAt P id s Q} (starts (Q ++ (changes id (some s) ∷ P))) f (start-placed P Q id s))))
+  where
+    S : List Placed
+    S = keep test (starts (Q ++ (changes id (some s) ∷ P)))
+
 -- a start that fires in e is in the list that demand 3 asks for
 pub fires-listed : (k : Chain) (P Q : List Event) (id : ℕ) (s : Start) (e : Event) (l : List Placed) → sameChain k (chainFor (s .mode)) ≡ true
     → fires e (startAt P id s Q) ≡ true → InOrder ticksLeftOrDate (keep (inChain k) (keep (fires e) (starts (Q ++ (changes id (some s) ∷ P))))) l
     → List·Memᴰ (startAt P id s Q) l
-fires-listed k P Q id s e l here f o =
-    subst (λ (m : List Placed). List·Memᴰ (startAt P id s Q) m)
-    (one-order ticksLeftOrDate (keep (inChain k) S) (order ticksLeftOrDate (keep (inChain k) S)) l (order-in-order ticksLeftOrDate (keep (inChain k) S)) o)
-    (mem-order ticksLeftOrDate [] (keep (inChain k) S) (mem-keep (inChain k) {x = startAt P id s Q} S here
-    (mem-keep (fires e) {x = startAt P id s Q} (starts (Q ++ (changes id (some s) ∷ P))) f (start-placed P Q id s))))
-  where
-    S : List Placed
-    S = keep (fires e) (starts (Q ++ (changes id (some s) ∷ P)))
+fires-listed k P Q id s e = in-its-list (fires e) k P Q id s
 
--- ---- 6. A set clock changes no start's ticks left.
+-- one that is queued in e is among those that go to the back of the queue
+pub goes-to-back : (P Q : List Event) (id : ℕ) (s : Start) (e : Event) (new : List Start) → isQueued e (startAt P id s Q) ≡ true
+    → Queues (Q ++ (changes id (some s) ∷ P)) e new → List·Memᴰ s new
+goes-to-back P Q id s e new f q =
+    subst (List·Memᴰ s) (sym (q .is)) (Memᴰ·map (λ g. g .begun) (by-chain (chainFor (s .mode)) refl))
+  where
+    by-chain : (k : Chain) → chainFor (s .mode) ≡ k → List·Memᴰ (startAt P id s Q) (q .ticking ++ q .dated)
+    by-chain ByTicks is =
+        Memᴰ·append-left (q .dated) (in-its-list (isQueued e) ByTicks P Q id s (q .ticking) (ap (sameChain ByTicks) is) f (q .ticking-order))
+    by-chain ByDate is =
+        Memᴰ·append-right (q .ticking) (in-its-list (isQueued e) ByDate P Q id s (q .dated) (ap (sameChain ByDate) is) f (q .dated-order))
+    by-chain Queue is = clash (sym (ap (sameChain Queue) is) ∙ not-queue (s .mode))
+
+-- ---- 5. A set clock changes no start's ticks left.
 
 pub clock-moves-no-tick : (d : ℕ) (g : Placed) → ticksLeftOrDate (withEvent (clockSetTo d) g) ≡ ticksLeftOrDate g
 clock-moves-no-tick d g = refl
 
--- ---- 7. On the words: what an accepted tick writes to its list.
+-- ---- 6. On the words: what an accepted tick writes to its list.
 
 -- the list that a call was lent now begins with entries among which is this one: id, routine and data
 abbrev pub Lists : List ℕ → Call → List ℕ → ℕ → ℕ → ℕ → Type 0
@@ -261,10 +281,11 @@ listed-at-tick : (w : List ℕ) (n t : ℕ) → outcome w (layOut n t) .status �
     → Lists (after w (layOut n t ∷ xs)) (tick list) list (s .id) (s .routine) (s .userData)
 listed-at-tick w n t ok xs list P Q id s ticking accepted is now =
     let a = demand3 w n t ok (xs ++ (tick list ∷ [])) .answers xs [] (tick list) refl .lists accepted in (
-      map entry (a .ticking ++ a .dated),
+      map entry (a .ticking ++ a .dated) ++ [],
       a .entries,
-      Memᴰ·map entry (Memᴰ·append-left (a .dated) (fires-listed ByTicks P Q id s oneTick (a .ticking) ticking now
-          (subst (λ (es : List Event). InOrder ticksLeftOrDate (keep (inChain ByTicks) (keep (fires oneTick) (starts es))) (a .ticking)) is (a .ticking-order)))),
+      Memᴰ·append-left [] (Memᴰ·map entry (Memᴰ·append-left (a .dated) (fires-listed ByTicks P Q id s oneTick (a .ticking) ticking now
+          (subst (λ (es : List Event). InOrder ticksLeftOrDate (keep (inChain ByTicks) (keep (fires oneTick) (starts es))) (a .ticking)) is
+          (a .ticking-order))))),
     )
 
 -- An accepted tick lists a start for n ticks, after which there were n - 1 ticks and nothing that ends it.
@@ -310,22 +331,28 @@ date-lists w n t ok xs c P Q id timer d r u accepted is quiet before moving ther
     let now : fires e (startAt P id s Q) ≡ true =
     at-date P Q id timer d r u e ∙ ap₂ (λ (x y : Bool). (not x && not y) && (movesClock e && past d (e ∷ Q ++ (changes id (some s) ∷ P)))) quiet before
     ∙ ap₂ (λ (x y : Bool). x && y) moving there in (
-      map entry (a .ticking ++ a .dated),
+      map entry (a .ticking ++ a .dated) ++ map entryOf (take (servesIn e) (a .queue)),
       a .entries,
-      Memᴰ·map entry (Memᴰ·append-right (a .ticking) (fires-listed ByDate P Q id s e (a .dated) refl now
-          (subst (λ (l : List Event). InOrder ticksLeftOrDate (keep (inChain ByDate) (keep (fires e) (starts l))) (a .dated)) is (a .dated-order)))),
+      Memᴰ·append-left (map entryOf (take (servesIn e) (a .queue)))
+          (Memᴰ·map entry (Memᴰ·append-right (a .ticking) (fires-listed ByDate P Q id s e (a .dated) refl now
+          (subst (λ (l : List Event). InOrder ticksLeftOrDate (keep (inChain ByDate) (keep (fires e) (starts l))) (a .dated)) is (a .dated-order))))),
     )
 
--- Each entry that any accepted call writes is that of a start that is due there and was not ended, and, unless it is periodic, was not due before.
+-- Each entry that any accepted call writes is that of a start that is due there and was not ended, and, unless it is periodic, was not due before;
+-- or, in a serve, that of the front of the queue.
 pub lists-only : (w : List ℕ) (n t : ℕ) → outcome w (layOut n t) .status ≡ 0 → (xs : List Call) (c : Call)
-    → outcome (after w (layOut n t ∷ xs)) c .status ≡ 0 → (l : List Placed)
-    × Begins (outcome (after w (layOut n t ∷ xs)) c .list) (lentTo c) (map entry l)
+    → outcome (after w (layOut n t ∷ xs)) c .status ≡ 0
+    → (l : List Placed) × (q : List Start) × IsQueue (eventsAfter w (layOut n t ∷ xs)) q
+    × Begins (outcome (after w (layOut n t ∷ xs)) c .list) (lentTo c)
+    (map entry l ++ map entryOf (take (servesIn (eventOf (eventsAfter w (layOut n t ∷ xs)) c)) q))
     × All (Listed (eventsAfter w (layOut n t ∷ xs)) (eventOf (eventsAfter w (layOut n t ∷ xs)) c)) l
 lists-only w n t ok xs c accepted =
     let es = eventsAfter w (layOut n t ∷ xs) in
     let e = eventOf es c in
     let a = demand3 w n t ok (xs ++ (c ∷ [])) .answers xs [] c refl .lists accepted in (
       a .ticking ++ a .dated,
+      a .queue,
+      a .is-queue,
       a .entries,
       all-append (Listed es e) (a .ticking) (a .dated) (only-due ByTicks es e (a .ticking) (a .ticking-order))
           (only-due ByDate es e (a .dated) (a .dated-order)),
@@ -341,4 +368,4 @@ set-clock-keeps-ticks t ok w list e =
     let now = withClock (read t) clock in
     ap (λ (o : Outcome). links ByTicks (o .table)) (outcome-accepted t (setClock w list) z)
     ∙ links-is (writtenOver s t) s (effect-holds t ok (setClock w list) z) ByTicks
-    ∙ fire-elsewhere ByDate (secondsOf w) now (chained-with-clock (read t) clock (sound-holds t ok .chained)) ByTicks (dated-not-again ByTicks) refl
+    ∙ fire-elsewhere ByDate (secondsOf w) now (chained-with-clock (read t) clock (sound-holds t ok .chained)) ByTicks dated-not-again refl

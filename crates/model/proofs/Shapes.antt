@@ -3,20 +3,20 @@
 use mathlib.Core.Path.{_≡_, refl, sym, ap, _∙_}
 use Prim.Native.Nat.{ℕ, _≤_, _<_, zero-le}
 use native.Mathlib.Omega.{arith}
-use mathlib.Core.Bool.{true, false}
+use mathlib.Core.Bool.{Bool, true, false}
 use mathlib.Core.List.{List, [], _∷_}
 use lib.Dec.{leb}
 use borrow.Author.Tests.{leb-true, leb-false}
-use Rattle.model.specs.Kinds.{Chain, ByTicks, ByDate, Mode, kindAt, chainFor, sameChain, byTicks}
+use Rattle.model.specs.Kinds.{Chain, ByTicks, ByDate, Queue, Mode, kindAt, chainFor, waitingKind, sameChain, byTicks, intervalIn}
 use Rattle.model.specs.State.{Slot, Link, free, slotAt, putAt}
-use Rattle.model.specs.Directives.{neverStarted, became, idled, intervalIn, waitingAs, fired, firedAll}
+use Rattle.model.specs.Directives.{neverStarted, became, idled, waitingAs, fired, firedAll}
 use Rattle.model.proofs.ListLaws.{cases, clash}
 use Rattle.model.proofs.KindLaws.{Alike, stopped-last, fired-last, stopped-alike, fired-alike, mode-kind, mode-last}
 use Rattle.model.proofs.Slots.{put-any}
 use Rattle.model.proofs.WellFormed.{Shape}
 
-pub free-shape : Shape free
-free-shape = record {
+pub free-shape : (b : Bool) → Shape b free
+free-shape b = record {
   kinds = zero-le;
   nameless = λ e. refl;
   named = λ p. absurd (omega arith);
@@ -24,10 +24,11 @@ free-shape = record {
   used = λ p. absurd (omega arith);
   by-ticks = λ e. clash (sym e);
   by-date = λ e. refl;
+  by-server = λ q. absurd (omega arith);
 }
 
-pub never-started-shape : (name : ℕ) → 0 < name → Shape (neverStarted name)
-never-started-shape name p = record {
+pub never-started-shape : (b : Bool) (name : ℕ) → 0 < name → Shape b (neverStarted name)
+never-started-shape b name p = record {
   kinds = omega arith;
   nameless = λ e. absurd (omega arith);
   named = λ q. p;
@@ -35,15 +36,18 @@ never-started-shape name p = record {
   used = λ q. absurd (omega arith);
   by-ticks = λ e. clash (sym e);
   by-date = λ e. refl;
+  by-server = λ q. absurd (omega arith);
 }
 
 -- a start is for at least one tick
 abbrev pub Some : Chain → ℕ → Type 0
 Some ByTicks n = 0 < n
 Some ByDate d = Unit {0}
+Some Queue d = Unit {0}
 
-pub waiting-shape : (m : Mode) (x : Slot) (amount r u : ℕ) → 0 < x .name → 0 < r → Some (chainFor m) amount → Shape (waitingAs m x amount r u)
-waiting-shape m x amount r u name routine i = record {
+pub waiting-shape : (b : Bool) (m : Mode) (x : Slot) (amount r u : ℕ) → 0 < x .name → 0 < r → Some (chainFor m) amount → (8 ≤ waitingKind m → b ≡ true)
+    → Shape b (waitingAs m x amount r u)
+waiting-shape b m x amount r u name routine i server = record {
   kinds = omega (arith, mode-kind m .1);
   nameless = λ e. absurd (omega (arith, mode-kind m .0));
   named = λ p. name;
@@ -51,19 +55,22 @@ waiting-shape m x amount r u name routine i = record {
   used = λ p. routine;
   by-ticks = λ e. some (chainFor m) i (sym (ap byTicks (mode-last m)) ∙ e);
   by-date = λ e. none (chainFor m) (sym (ap byTicks (mode-last m)) ∙ e);
+  by-server = server;
 }
   where
     some : (k : Chain) → Some k amount → sameChain ByTicks k ≡ true → 0 < intervalIn k amount
     some ByTicks i e = i
     some ByDate i e = clash (sym e)
+    some Queue i e = clash (sym e)
 
     none : (k : Chain) → sameChain ByTicks k ≡ false → intervalIn k amount ≡ 0
     none ByTicks e = clash e
     none ByDate e = refl
+    none Queue e = refl
 
 -- a slot that gets a kind of the same sort keeps its shape
-became-shape : (x : Slot) (n : ℕ) → Shape x → Alike (x .kind) n → kindAt n .last ≡ kindAt (x .kind) .last → Shape (became n x)
-became-shape x n h a last = record {
+became-shape : (b : Bool) (x : Slot) (n : ℕ) → Shape b x → Alike (x .kind) n → kindAt n .last ≡ kindAt (x .kind) .last → Shape b (became n x)
+became-shape b x n h a last = record {
   kinds = omega (arith, a .is-kind);
   nameless = λ z. h .nameless (zero-kind (x .kind) n a z);
   named = λ p. h .named (some-kind (x .kind) n a p);
@@ -71,6 +78,7 @@ became-shape x n h a last = record {
   used = λ p. h .used (high-kind (x .kind) n a p);
   by-ticks = λ e. h .by-ticks (sym (ap byTicks last) ∙ e);
   by-date = λ e. h .by-date (sym (ap byTicks last) ∙ e);
+  by-server = λ p. h .by-server (a .server p);
 }
   where
     low-kind : (k n : ℕ) → Alike k n → n ≤ 1 → k ≤ 1
@@ -85,14 +93,15 @@ became-shape x n h a last = record {
     high-kind : (k n : ℕ) → Alike k n → 2 ≤ n → 2 ≤ k
     high-kind k n a p = cases (leb k 1) (λ e. omega (arith, a .low (leb-true k 1 e))) (λ e. leb-false k 1 e)
 
-pub idle-shape : (x : Slot) → Shape x → Shape (idled x)
-idle-shape x h = became-shape x (kindAt (x .kind) .whenStopped) h (stopped-alike (x .kind) (omega (arith, h .kinds))) (stopped-last (x .kind))
+module _ (b : Bool) where
+  pub idle-shape : (x : Slot) → Shape b x → Shape b (idled x)
+  idle-shape x h = became-shape b x (kindAt (x .kind) .whenStopped) h (stopped-alike (x .kind) (omega (arith, h .kinds))) (stopped-last (x .kind))
 
-fired-shape : (x : Slot) → Shape x → Shape (fired x)
-fired-shape x h = became-shape x (kindAt (x .kind) .whenFired) h (fired-alike (x .kind) (omega (arith, h .kinds))) (fired-last (x .kind))
+  fired-shape : (x : Slot) → Shape b x → Shape b (fired x)
+  fired-shape x h = became-shape b x (kindAt (x .kind) .whenFired) h (fired-alike (x .kind) (omega (arith, h .kinds))) (fired-last (x .kind))
 
-pub shape-firedAll : (ws : List Link) (slots : List Slot) → ((j : ℕ) → Shape (slotAt slots j)) → (j : ℕ) → Shape (slotAt (firedAll ws slots) j)
-shape-firedAll [] slots h j = h j
-shape-firedAll (w ∷ ws) slots h j =
-    shape-firedAll ws (putAt slots (w .slot) (fired (slotAt slots (w .slot))))
-    (λ i. put-any Shape slots (w .slot) i (fired (slotAt slots (w .slot))) (fired-shape (slotAt slots (w .slot)) (h (w .slot))) (h i)) j
+  pub shape-firedAll : (ws : List Link) (slots : List Slot) → ((j : ℕ) → Shape b (slotAt slots j)) → (j : ℕ) → Shape b (slotAt (firedAll ws slots) j)
+  shape-firedAll [] slots h j = h j
+  shape-firedAll (w ∷ ws) slots h j =
+      shape-firedAll ws (putAt slots (w .slot) (fired (slotAt slots (w .slot))))
+      (λ i. put-any (Shape b) slots (w .slot) i (fired (slotAt slots (w .slot))) (fired-shape (slotAt slots (w .slot)) (h (w .slot))) (h i)) j

@@ -1,27 +1,28 @@
 -- Agreement of a state with the events so far. Each accepted call that does not move the clock takes a state that agrees with them to one that
 -- agrees with them and the call's event. Assumes nothing.
-use mathlib.Core.Path.{_≡_, refl, sym, ap, ap₂, _∙_}
+use mathlib.Core.Path.{_≡_, refl, sym, ap, ap₂, _∙_, subst}
 use Prim.Native.Nat.{ℕ, _+_, _≤_, _<_}
 use native.Mathlib.Omega.{arith}
 use mathlib.Core.Bool.{Bool, true, false, cond, not}
 use mathlib.Core.Option.{Option, none, some}
-use mathlib.Core.List.{List, [], _∷_, map}
-use lib.ListN.{length, replicate}
+use mathlib.Core.List.{List, [], _∷_, map, nil≢cons, cons≢nil, tail-eq-of-cons-eq}
+use lib.ListN.{length, drop, replicate}
 use lib.Dec.{eqb}
 use borrow.Author.Tests.{eqb-true, eqb-false, eq-eqb, ne-eqb, not-true}
 use Rattle.model.specs.Lists.{keep, place, All}
-use Rattle.model.specs.Kinds.{Chain, ByTicks, ByDate, Mode, chainFor, sameChain}
+use Rattle.model.specs.Kinds.{Chain, ByTicks, ByDate, Queue, Mode, chainFor, sameChain, intervalIn}
 use Rattle.model.specs.State.{Slot, Link, State, chainOf, free, slotAt, putAt, without, idBase}
-use Rattle.model.specs.Directives.{laidOut, stored, stopped, intervalIn, waitingAs, started}
-use Rattle.model.specs.History.{Start, startOf, Event, laidOutFor, changes, deletes, nothing, lastStart, perSecond, clockAfter, starts, Waiting}
+use Rattle.model.specs.Directives.{laidOut, stored, stopped, waitingAs, started, firedAll, front, handedOut, initiated}
+use Rattle.model.specs.History.{Start, startOf, Event, laidOutFor, changes, deletes, oneTick, clockSetTo, initiates, servesFront, nothing, startIn, lastStart, perSecond, clockAfter, movesClock, Placed, placed, starts, ends, inChain, Waiting, waiting, isInitiated, servesIn, leftInQueue, IsQueue, queuedAs}
 use Rattle.model.specs.Demand.{shown}
 use Rattle.model.proofs.ListLaws.{cases, clash, all, all-map, all-passed, keep-all, keep-none, keep-map, keep-on, map-on, map-place}
-use Rattle.model.proofs.KindLaws.{own-chain, mode-last}
-use Rattle.model.proofs.Slots.{at-same, at-other, field-put, Memo, memo, put-any, put-at, blank}
+use Rattle.model.proofs.KindLaws.{own-chain, mode-last, not-queue}
+use Rattle.model.proofs.Slots.{at-same, at-other, field-put, Memo, memo, memo-firedAll, put-any, put-at, blank}
 use Rattle.model.proofs.Shapes.{Some}
-use Rattle.model.proofs.Steps.{with-chain-slots, with-chain-clock, with-chain-each, stored-chain, stopped-chain, laid-chain}
-use Rattle.model.proofs.HistoryLaws.{Sized, chainFrom, sized-more}
-use Rattle.model.proofs.ChainLaws.{bringsDue, begins, chain-calm, chain-start, chain-elsewhere}
+use Rattle.model.proofs.Steps.{with-chain-slots, with-chain-clock, with-chain-server, with-chain-each, stored-chain, stopped-chain, laid-chain, initiated-chain}
+use Rattle.model.proofs.HistoryLaws.{Sized, chainFrom, fresh, sized-more}
+use Rattle.model.proofs.ChainLaws.{bringsDue, begins, chain-calm, chain-start}
+use Rattle.model.proofs.QueueLaws.{queue-calm}
 use Rattle.model.proofs.ClockLaws.{standing}
 
 -- ---- a chain as it is shown
@@ -52,13 +53,20 @@ abbrev pub Remembers : List Event → ℕ → Memo → Type 0
 Remembers h i m = (o : Mode) → m .last ≡ some o → chainFor o ≡ ByTicks
     → (0 < m .interval) × (lastStart (idBase + i) h ≡ some (startOf (idBase + i) o (m .interval) (m .routine) (m .userData)))
 
+-- the links of chain k show l after the events h: the chain that those give, or the queue
+abbrev pub Stands : Chain → List Event → List Waiting → Type 0
+Stands ByTicks h l = l ≡ chainFrom ByTicks h
+Stands ByDate h l = l ≡ chainFrom ByDate h
+Stands Queue h l = (q : List Start) × IsQueue h q × (l ≡ map queuedAs q)
+
 -- the state agrees with the events h
 pub record Agrees (s : State) (h : List Event) : Type 0 where
   pub sized : All Sized (starts h)
-  pub chain : (k : Chain) → map (shown (s .slots)) (chainOf k s) ≡ chainFrom k h
+  pub chain : (k : Chain) → Stands k h (map (shown (s .slots)) (chainOf k s))
   pub memory : (i : ℕ) → Remembers h i (memo (slotAt (s .slots) i))
   pub per : perSecond h ≡ s .clock .perSecond
   pub clock : clockAfter 0 h ≡ standing (s .clock)
+  pub initiated : isInitiated h ≡ s .server
 
 pub kept-all : (l : List Waiting) → keep (λ w. true) l ≡ l
 kept-all l = keep-all (λ w. true) l (all (λ w. refl) l)
@@ -66,9 +74,39 @@ kept-all l = keep-all (λ w. true) l (all (λ w. refl) l)
 pub kept-none : (l : List Waiting) → keep (λ w. false) l ≡ []
 kept-none l = keep-none (λ w. false) l (all (λ w. refl) l)
 
-nothing-calm : (k : Chain) → bringsDue k nothing ≡ false
-nothing-calm ByTicks = refl
-nothing-calm ByDate = refl
+-- ---- an event at which nothing comes due or is served
+
+no-tick : (e : Event) → movesClock e ≡ false → (k : Chain) → bringsDue k e ≡ false
+no-tick (laidOutFor t) z ByTicks = refl
+no-tick (changes i s) z ByTicks = refl
+no-tick (deletes i) z ByTicks = refl
+no-tick oneTick z ByTicks = z
+no-tick (clockSetTo d) z ByTicks = refl
+no-tick initiates z ByTicks = refl
+no-tick servesFront z ByTicks = refl
+no-tick nothing z ByTicks = refl
+no-tick e z ByDate = z
+no-tick e z Queue = refl
+
+module _ (h : List Event) (sized : All Sized (starts h)) (e : Event) (still : movesClock e ≡ false) (none-handed : servesIn e ≡ 0) where
+  pub stands-calm : (k : Chain) (l : List Waiting) → fresh k e h ≡ [] → Stands k h l → Stands k (e ∷ h) (keep (λ w. not (ends (w .shows .id) e)) l)
+  stands-calm ByTicks l new is = ap (keep (λ w. not (ends (w .shows .id) e))) is ∙ sym (chain-calm ByTicks h sized e (no-tick e still ByTicks) new)
+  stands-calm ByDate l new is = ap (keep (λ w. not (ends (w .shows .id) e))) is ∙ sym (chain-calm ByDate h sized e (no-tick e still ByDate) new)
+  stands-calm Queue l new (q, is, shows) = (
+    leftInQueue e q,
+    queue-calm h e q still is,
+    ap (keep (λ w. not (ends (w .shows .id) e))) shows ∙ keep-map queuedAs (λ w. not (ends (w .shows .id) e)) q
+        ∙ ap (λ (n : ℕ). map queuedAs (keep (λ s. not (ends (s .id) e)) (drop n q))) (sym none-handed),
+  )
+
+-- a start, in its chain
+stands-start : (h : List Event) → All Sized (starts h) → (id : ℕ) (s : Start) (k : Chain) (l : List Waiting) → sameChain k (chainFor (s .mode)) ≡ true
+    → Stands k h l → Stands k (changes id (some s) ∷ h) (place (λ w. w .wait) (begins s) (keep (λ w. not (eqb id (w .shows .id))) l))
+stands-start h sized id s ByTicks l here is =
+    ap (λ (m : List Waiting). place (λ w. w .wait) (begins s) (keep (λ w. not (eqb id (w .shows .id))) m)) is ∙ sym (chain-start ByTicks h sized id s here)
+stands-start h sized id s ByDate l here is =
+    ap (λ (m : List Waiting). place (λ w. w .wait) (begins s) (keep (λ w. not (eqb id (w .shows .id))) m)) is ∙ sym (chain-start ByDate h sized id s here)
+stands-start h sized id s Queue l here is = clash (sym here ∙ not-queue (s .mode))
 
 -- a timer that was not last started by ticks has nothing to remember
 pub no-start : (h : List Event) (i : ℕ) (m : Memo) → m .last ≡ none → Remembers h i m
@@ -80,26 +118,43 @@ no-start h i m e o f p = absurd (never (sym e ∙ f))
 -- ---- calls that change no waiting timer
 
 module _ (s : State) (h : List Event) (v : Agrees s h) where
-  chain-nothing : (k : Chain) → chainFrom k (nothing ∷ h) ≡ chainFrom k h
-  chain-nothing k = chain-calm k h (v .sized) nothing (nothing-calm k) refl ∙ kept-all (chainFrom k h)
+  -- an event that neither starts nor ends any
+  same-chains : (e : Event) → movesClock e ≡ false → servesIn e ≡ 0 → startIn e ≡ none → ((j : ℕ) → ends j e ≡ false) → (k : Chain)
+      → Stands k (e ∷ h) (map (shown (s .slots)) (chainOf k s))
+  same-chains e still none-handed no-start fires-none k =
+      let l = map (shown (s .slots)) (chainOf k s) in
+      subst (Stands k (e ∷ h)) (keep-all (λ w. not (ends (w .shows .id) e)) l (all (λ w. ap not (fires-none (w .shows .id))) l))
+      (stands-calm h (v .sized) e still none-handed k l (ap (λ (o : Option Start). map waiting (keep (inChain k) (placed o (e ∷ h)))) no-start) (v .chain k))
 
   pub on-nothing : Agrees s (nothing ∷ h)
   on-nothing = record {
     sized = sized-more h nothing (v .sized) tt;
-    chain = λ k. v .chain k ∙ sym (chain-nothing k);
+    chain = same-chains nothing refl refl refl (λ j. refl);
     memory = v .memory;
     per = v .per;
     clock = v .clock;
+    initiated = v .initiated;
+  }
+
+  pub on-initiate : Agrees (initiated s) (initiates ∷ h)
+  on-initiate = record {
+    sized = sized-more h initiates (v .sized) tt;
+    chain = λ k. rw (initiated-chain s k) (same-chains initiates refl refl refl (λ j. refl) k);
+    memory = v .memory;
+    per = v .per;
+    clock = v .clock;
+    initiated = refl;
   }
 
   -- slot i, which remembers as much as x, and that is nothing, becomes x
   pub on-stored : (i : ℕ) (x : Slot) → memo x ≡ memo (slotAt (s .slots) i) → memo x .last ≡ none → Agrees (stored s i x) (nothing ∷ h)
   on-stored i x same idle = record {
     sized = sized-more h nothing (v .sized) tt;
-    chain = λ k. rw (stored-chain s i x k) (look (chainOf k s)) ∙ v .chain k ∙ sym (chain-nothing k);
+    chain = λ k. rw (stored-chain s i x k) (subst (Stands k (nothing ∷ h)) (sym (look (chainOf k s))) (same-chains nothing refl refl refl (λ j. refl) k));
     memory = λ j. put-any (λ z. Remembers h j (memo z)) (s .slots) i j x (no-start h j (memo x) idle) (v .memory j);
     per = v .per;
     clock = v .clock;
+    initiated = v .initiated;
   }
     where
       look : (l : List Link) → map (shown (putAt (s .slots) i x)) l ≡ map (shown (s .slots)) l
@@ -108,28 +163,56 @@ module _ (s : State) (h : List Event) (v : Agrees s h) where
   pub on-lay-out : (n t : ℕ) → Agrees (laidOut n t) (laidOutFor t ∷ h)
   on-lay-out n t = record {
     sized = sized-more h (laidOutFor t) (v .sized) tt;
-    chain = λ k. ap (map (shown (replicate n free))) (laid-chain n t k) ∙ sym (ended k (calm k));
+    chain = λ k.
+        let l = map (shown (s .slots)) (chainOf k s) in
+        rw (laid-chain n t k) (subst (Stands k (laidOutFor t ∷ h)) (kept-none l) (stands-calm h (v .sized) (laidOutFor t) refl refl k l refl (v .chain k)));
     memory = λ i. no-start (laidOutFor t ∷ h) i (memo (slotAt (replicate n free) i)) (ap (λ (x : Slot). memo x .last) (blank n i));
     per = refl;
     clock = refl;
+    initiated = refl;
+  }
+
+  -- the front of the queue is handed out
+  pub on-serve : Agrees (handedOut s) (servesFront ∷ h)
+  on-serve = record {
+    sized = sized-more h servesFront (v .sized) tt;
+    chain = λ k. subst (Stands k (servesFront ∷ h)) (sym (look (chainOf k (handedOut s)))) (each k);
+    memory = λ i. subst (Remembers h i) (sym (memo-firedAll (front s) (s .slots) i)) (v .memory i);
+    per = v .per;
+    clock = v .clock;
+    initiated = v .initiated;
   }
     where
-      ended : (k : Chain) → bringsDue k (laidOutFor t) ≡ false → chainFrom k (laidOutFor t ∷ h) ≡ []
-      ended k calm = chain-calm k h (v .sized) (laidOutFor t) calm refl ∙ kept-none (chainFrom k h)
+      look : (l : List Link) → map (shown (firedAll (front s) (s .slots))) l ≡ map (shown (s .slots)) l
+      look = shown-memo (s .slots) (firedAll (front s) (s .slots)) (memo-firedAll (front s) (s .slots))
 
-      calm : (k : Chain) → bringsDue k (laidOutFor t) ≡ false
-      calm ByTicks = refl
-      calm ByDate = refl
+      shown-behind : (l : List Link) (q : List Start) → map (shown (s .slots)) l ≡ map queuedAs q
+          → map (shown (s .slots)) (drop 1 l) ≡ map queuedAs (keep (λ x. true) (drop 1 q))
+      shown-behind [] [] e = refl
+      shown-behind [] (x ∷ q) e = absurd (nil≢cons e)
+      shown-behind (w ∷ ws) [] e = absurd (cons≢nil e)
+      shown-behind (w ∷ ws) (x ∷ q) e = tail-eq-of-cons-eq e ∙ ap (map queuedAs) (sym (keep-all (λ y. true) q (all (λ y. refl) q)))
+
+      each : (k : Chain) → Stands k (servesFront ∷ h) (map (shown (s .slots)) (chainOf k (handedOut s)))
+      each ByTicks = v .chain ByTicks ∙ sym (chain-calm ByTicks h (v .sized) servesFront refl refl ∙ kept-all (chainFrom ByTicks h))
+      each ByDate = v .chain ByDate ∙ sym (chain-calm ByDate h (v .sized) servesFront refl refl ∙ kept-all (chainFrom ByDate h))
+      each Queue = let q = v .chain Queue in (leftInQueue servesFront (q .0), queue-calm h servesFront (q .0) refl (q .1), shown-behind (s .queue) (q .0) (q .2))
 
 -- the table that a lay out leaves, with nothing before it
 pub agrees-laid : (n t : ℕ) → Agrees (laidOut n t) (laidOutFor t ∷ [])
 agrees-laid n t = record {
   sized = tt;
-  chain = λ k. ap (map (shown (replicate n free))) (laid-chain n t k);
+  chain = λ k. rw (laid-chain n t k) (empty k);
   memory = λ i. no-start (laidOutFor t ∷ []) i (memo (slotAt (replicate n free) i)) (ap (λ (x : Slot). memo x .last) (blank n i));
   per = refl;
   clock = refl;
+  initiated = refl;
 }
+  where
+    empty : (k : Chain) → Stands k (laidOutFor t ∷ []) []
+    empty ByTicks = refl
+    empty ByDate = refl
+    empty Queue = ([], queue-calm [] (laidOutFor t) [] refl refl, refl)
 
 -- ---- calls on one timer
 
@@ -152,37 +235,31 @@ module _ (s : State) (h : List Event) (v : Agrees s h) (id i : ℕ) (is : id ≡
   other-id : (j : ℕ) → eqb j i ≡ false → eqb id (idBase + j) ≡ false
   other-id j e = same-id id i j is ∙ e
 
-  stop-calm : (o : Option Start) (k : Chain) → bringsDue k (changes id o) ≡ false
-  stop-calm o ByTicks = refl
-  stop-calm o ByDate = refl
-
-  -- slot i becomes x and waits no more
+  -- slot i becomes x and is in no chain
   pub on-stop : (x : Slot) → Remembers h i (memo x) → Agrees (stopped s i x) (changes id none ∷ h)
   on-stop x remember = record {
     sized = sized-more h (changes id none) (v .sized) tt;
-    chain = λ k. rw stopped-chain (without-slot x (chainOf k s) ∙ ap rest (v .chain k)
-        ∙ sym (chain-calm k h (v .sized) (changes id none) (stop-calm none k) refl));
+    chain = λ k. rw (stopped-chain s i x k) (subst (Stands k (changes id none ∷ h)) (sym (without-slot x (chainOf k s)))
+        (stands-calm h (v .sized) (changes id none) refl refl k (map (shown (s .slots)) (chainOf k s)) refl (v .chain k)));
     memory = put-at (λ j y. Remembers h j (memo y)) (s .slots) i x low high remember (λ j n. v .memory j);
     per = v .per;
     clock = v .clock;
+    initiated = v .initiated;
   }
-
-  delete-calm : (k : Chain) → bringsDue k (deletes id) ≡ false
-  delete-calm ByTicks = refl
-  delete-calm ByDate = refl
 
   -- slot i becomes free
   pub on-delete : Agrees (stopped s i free) (deletes id ∷ h)
   on-delete = record {
     sized = sized-more h (deletes id) (v .sized) tt;
-    chain = λ k. rw stopped-chain (without-slot free (chainOf k s) ∙ ap rest (v .chain k)
-        ∙ sym (chain-calm k h (v .sized) (deletes id) (delete-calm k) refl));
+    chain = λ k. rw (stopped-chain s i free k) (subst (Stands k (deletes id ∷ h)) (sym (without-slot free (chainOf k s)))
+        (stands-calm h (v .sized) (deletes id) refl refl k (map (shown (s .slots)) (chainOf k s)) refl (v .chain k)));
     memory = put-at (λ j y. Remembers (deletes id ∷ h) j (memo y)) (s .slots) i free low high (no-start (deletes id ∷ h) i (memo free) refl)
         (λ j n o t p.
         let w = v .memory j o t p in
         (w .0, ap (λ (b : Bool). cond b none (lastStart (idBase + j) h)) (other-id j n) ∙ w .1));
     per = v .per;
     clock = v .clock;
+    initiated = v .initiated;
   }
 
   -- slot i starts to wait
@@ -199,33 +276,37 @@ module _ (s : State) (h : List Event) (v : Agrees s h) (id i : ℕ) (is : id ≡
     abbrev e : Event
     e = changes id (some start)
 
-    own : map (shown (putAt (s .slots) i x)) (place (λ w. w .wait) new (without i (chainOf (chainFor m) s))) ≡ chainFrom (chainFor m) (e ∷ h)
+    own : Stands (chainFor m) (e ∷ h) (map (shown (putAt (s .slots) i x)) (place (λ w. w .wait) new (without i (chainOf (chainFor m) s))))
     own =
         let k = chainFor m in
         let sl = putAt (s .slots) i x in
         let others = without i (chainOf k s) in
+        subst (Stands k (e ∷ h)) (sym (
         map-place (shown sl) (λ w. w .wait) (λ w. w .wait) new others (all (λ y. refl) others)
         ∙ ap₂ (λ (n : ℕ) (y : Memo). place (λ w. w .wait)
         (record { shows = record { id = n; routine = y .routine; userData = y .userData }; mode = y .last; interval = y .interval; wait = amount })
         (map (shown sl) others)) (sym is) (ap memo (at-same (s .slots) i x low high) ∙ remembered)
-        ∙ ap (place (λ w. w .wait) (begins start)) (without-slot x (chainOf k s) ∙ ap rest (v .chain k))
-        ∙ sym (chain-start k h (v .sized) id start (own-chain k))
+        ∙ ap (place (λ w. w .wait) (begins start)) (without-slot x (chainOf k s))))
+        (stands-start h (v .sized) id start k (map (shown (s .slots)) (chainOf k s)) (own-chain k) (v .chain k))
       where
         remembered : _≡_ {A = Memo} (memo x) (record { last = some m; interval = intervalIn (chainFor m) amount; routine = r; userData = u })
         remembered = ap {B = Memo} (λ (o : Option Mode). record { last = o; interval = intervalIn (chainFor m) amount; routine = r; userData = u }) (mode-last m)
 
-    off : (j : Chain) → sameChain j (chainFor m) ≡ false → map (shown (putAt (s .slots) i x)) (chainOf j (stopped s i x)) ≡ chainFrom j (e ∷ h)
-    off j away =
-        rw (stopped-chain s i x j) (without-slot x (chainOf j s) ∙ ap rest (v .chain j) ∙ sym (chain-elsewhere j h (v .sized) id start away))
+    elsewhere : (j : Chain) → sameChain j (chainFor m) ≡ false → Stands j (e ∷ h) (map (shown (putAt (s .slots) i x)) (chainOf j (stopped s i x)))
+    elsewhere j away =
+        let g : Placed = record { begun = start; before = e ∷ h; after = [] } in
+        rw (stopped-chain s i x j) (subst (Stands j (e ∷ h)) (sym (without-slot x (chainOf j s)))
+        (stands-calm h (v .sized) e refl refl j (map (shown (s .slots)) (chainOf j s)) (ap (λ (b : Bool). map waiting (cond b (g ∷ []) [])) away) (v .chain j)))
 
     pub on-start : Agrees (started m s i amount r u) (changes id (some (startOf id m amount r u)) ∷ h)
     on-start = record {
       sized = sized-more h e (v .sized) (some-amount, tt);
       chain = simp with-chain-slots (with-chain-each (stopped s i x) (putAt (s .slots) i x) (place (λ w. w .wait) new (chainOf (chainFor m) (stopped s i x)))
-          (λ j l. map (shown (putAt (s .slots) i x)) l ≡ chainFrom j (e ∷ h)) (chainFor m) (rw (stopped-chain s i x (chainFor m)) own) off);
+          (λ j l. Stands j (e ∷ h) (map (shown (putAt (s .slots) i x)) l)) (chainFor m) (rw (stopped-chain s i x (chainFor m)) own) elsewhere);
       memory = λ j. simp with-chain-slots (remember j);
       per = simp with-chain-clock (v .per);
       clock = simp with-chain-clock (v .clock);
+      initiated = simp with-chain-server (v .initiated);
     }
       where
         remember : (j : ℕ) → Remembers (e ∷ h) j (memo (slotAt (putAt (s .slots) i x) j))

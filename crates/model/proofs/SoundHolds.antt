@@ -8,13 +8,13 @@ use mathlib.Core.Bool.{Bool, true, false, cond, not}
 use mathlib.Core.List.{List, [], _∷_}
 use lib.ListN.{length, getD, List·getD-eq-default}
 use lib.Dec.{leb, ltb, eqb}
-use borrow.Author.Tests.{leb-true, ltb-true, ltb-false, eqb-true, eq-eqb, ne-eqb, le-ltb}
+use borrow.Author.Tests.{leb-true, ltb-true, ltb-false, eqb-true, eqb-false, eq-eqb, ne-eqb, le-ltb}
 use Rattle.model.specs.Lists.{count, every, All, Sorted}
-use Rattle.model.specs.Kinds.{Chain, ByTicks, ByDate, kindAt, linked, waitsIn}
+use Rattle.model.specs.Kinds.{Chain, ByTicks, ByDate, Queue, kindAt, linked, waitsIn}
 use Rattle.model.specs.State.{Slot, Link, chainOf, free, slotAt}
 use Rattle.calendar.specs.Calendar.{allOf, lastSecond}
-use Rattle.model.specs.Words.{first, word, headWord, along, accumulated, linksFrom, links, slotFrom, read, slotCount, ticksPerSecond, clockSet, seconds, ticksInto, firstTicking, firstDated, kindOf, nameOf, intervalOf, waitOf, routineOf, dataOf, nextOf, previousOf}
-use Rattle.model.specs.Sound.{headerTests, headerSound, unlinked, unstarted, slotTests, slotSound, previousSound, chainTests, chainSound, firstSound, ticksSound, rising, datesSound, soundTests, sound}
+use Rattle.model.specs.Words.{first, word, headWord, along, accumulated, linksFrom, links, slotFrom, read, slotCount, ticksPerSecond, clockSet, seconds, ticksInto, firstTicking, firstDated, serverInitiated, kindOf, nameOf, intervalOf, waitOf, routineOf, dataOf, nextOf, previousOf}
+use Rattle.model.specs.Sound.{headerTests, headerSound, unlinked, unstarted, slotTests, slotSound, previousSound, chainTests, chainSound, firstSound, ticksSound, rising, datesSound, queueSound, soundTests, sound}
 use Rattle.model.proofs.ListLaws.{cases, both, or-else, all-at, up-at, every-all, all, all-map, all-zip}
 use Rattle.model.proofs.WellFormed.{timesIn, Fits, Chained, Shape, WellFormed, Holds}
 use Rattle.model.proofs.KindLaws.{none-in}
@@ -78,6 +78,11 @@ first-low : (c : List Link) → firstSound c ≡ true → Sorted (λ w. w .wait)
 first-low [] e h = tt
 first-low (w ∷ ws) e h = let p = leb-true 1 (w .wait) e in (p, all-map (λ x q. omega arith) ws (h .0))
 
+-- zeros rise
+flat-rises : (c : List Link) → All (λ w. w .wait ≡ 0) c → Sorted (λ w. w .wait) c
+flat-rises [] h = tt
+flat-rises (w ∷ ws) h = (all-map (λ x p. omega (arith, h .0)) ws (h .1), flat-rises ws (h .1))
+
 -- a slot that is not among 1 to n stands in no chain of them
 outside : (n i : ℕ) (c : List Link) → All (InSlots n) c → ((0 < i) × (i ≤ n) → ⊥) → timesIn c i ≡ 0
 outside n i [] h out = refl
@@ -107,8 +112,7 @@ pub record Header (t : List ℕ) : Type 0 where
   pub second-high : seconds t ≤ lastSecond
   pub into : ticksInto t < ticksPerSecond t
   pub seven : word t 7 ≡ 0
-  pub eight : word t 8 ≡ 0
-  pub nine : word t 9 ≡ 0
+  pub eight : word t 8 ≤ 1
   pub unset : eqb (clockSet t) 1 ≡ false → (seconds t ≡ 0) × (ticksInto t ≡ 0) × (firstDated t ≡ 0)
 
 header : (t : List ℕ) → headerSound t ≡ true → Header t
@@ -126,10 +130,9 @@ header t e =
       second-high = leb-true (seconds t) lastSecond (at 6);
       into = ltb-true (ticksInto t) (ticksPerSecond t) (at 7);
       seven = eqb-true (word t 7) 0 (at 8);
-      eight = eqb-true (word t 8) 0 (at 9);
-      nine = eqb-true (word t 9) 0 (at 10);
+      eight = leb-true (word t 8) 1 (at 9);
       unset = λ f.
-          let z : (m : ℕ) → getD zeros m true ≡ true = all-at zeros (or-else (eqb (clockSet t) 1) (allOf zeros) (at 11) f) in
+          let z : (m : ℕ) → getD zeros m true ≡ true = all-at zeros (or-else (eqb (clockSet t) 1) (allOf zeros) (at 10) f) in
           (eqb-true (seconds t) 0 (z 0), eqb-true (ticksInto t) 0 (z 1), eqb-true (firstDated t) 0 (z 2));
     }
 
@@ -140,12 +143,12 @@ module _ (t : List ℕ) (i : ℕ) (ok : slotSound t i ≡ true) where
   unfolding slotSound
   slot-test m = all-at (slotTests t i (kindOf t i)) ok m
 
-  shape : Shape (slotFrom t i)
+  shape : Shape (eqb (word t 8) 1) (slotFrom t i)
   shape =
       let kind = kindOf t i in
       let zeros = eqb (intervalOf t i) 0 ∷ eqb (routineOf t i) 0 ∷ eqb (dataOf t i) 0 ∷ [] in
       record {
-        kinds = leb-true kind 7 (slot-test 0);
+        kinds = leb-true kind 13 (slot-test 0);
         nameless = λ e. eqb-true (nameOf t i) 0 (or-else (not (eqb kind 0)) (eqb (nameOf t i) 0) (slot-test 1) (ap not (eq-eqb kind 0 e)));
         named = λ p. ltb-true 0 (nameOf t i) (or-else (eqb kind 0) (ltb 0 (nameOf t i)) (slot-test 2) (ne-eqb kind 0 (λ e. omega arith)));
         blank = λ p.
@@ -154,6 +157,7 @@ module _ (t : List ℕ) (i : ℕ) (ok : slotSound t i ≡ true) where
         used = λ p. ltb-true 0 (routineOf t i) (or-else (ltb kind 2) (ltb 0 (routineOf t i)) (slot-test 4) (le-ltb kind 2 p));
         by-ticks = λ e. ltb-true 0 (intervalOf t i) (rw e at (slot-test 5));
         by-date = λ e. eqb-true (intervalOf t i) 0 (rw e at (slot-test 5));
+        by-server = λ p. or-else (ltb kind 8) (eqb (word t 8) 1) (slot-test 7) (le-ltb kind 8 p);
       }
 
   loose : ((k : Chain) → waitsIn k (kindOf t i) ≡ false) → Loose t i
@@ -192,6 +196,7 @@ followed k t e =
 read-chain : (t : List ℕ) (k : Chain) → chainOf k (read t) ≡ links k t
 read-chain t ByTicks = refl
 read-chain t ByDate = refl
+read-chain t Queue = refl
 
 -- ---- a sound table
 
@@ -209,18 +214,24 @@ module _ (t : List ℕ) (ok : sound t ≡ true) where
   chain-ok : (k : Chain) → Followed k t
   chain-ok ByTicks = followed ByTicks t (bullet 2)
   chain-ok ByDate = followed ByDate t (bullet 3)
+  chain-ok Queue = followed Queue t (bullet 4)
 
   ticks-ok : (firstSound (links ByTicks t) ≡ true) × (every (λ w. leb (w .wait) (intervalOf t (w .slot))) (links ByTicks t) ≡ true)
   unfolding ticksSound
-  ticks-ok = both (firstSound (links ByTicks t)) (every (λ w. leb (w .wait) (intervalOf t (w .slot))) (links ByTicks t)) (bullet 4)
+  ticks-ok = both (firstSound (links ByTicks t)) (every (λ w. leb (w .wait) (intervalOf t (w .slot))) (links ByTicks t)) (bullet 5)
 
   dates-ok : (rising (suc (seconds t)) (links ByDate t) ≡ true) × (every (λ w. leb (w .wait) lastSecond) (links ByDate t) ≡ true)
   unfolding datesSound
-  dates-ok = both (rising (suc (seconds t)) (links ByDate t)) (every (λ w. leb (w .wait) lastSecond) (links ByDate t)) (bullet 5)
+  dates-ok = both (rising (suc (seconds t)) (links ByDate t)) (every (λ w. leb (w .wait) lastSecond) (links ByDate t)) (bullet 6)
+
+  queue-ok : All (λ w. w .wait ≡ 0) (links Queue t)
+  unfolding queueSound
+  queue-ok = all-map (λ w p. eqb-true (w .wait) 0 p) (links Queue t) (every-all (λ w. eqb (w .wait) 0) (links Queue t) (bullet 7))
 
   rises : (k : Chain) → Sorted (λ w. w .wait) (links k t)
   rises ByTicks = ticks-rise t (slotCount t) 0 (firstTicking t) .1
   rises ByDate = dates-rise (suc (seconds t)) (links ByDate t) (dates-ok .0) .1
+  rises Queue = flat-rises (links Queue t) queue-ok
 
   meets : (k : Chain) (i : ℕ) → timesIn (links k t) i ≡ cond (waitsIn k (slotAt (read t .slots) i .kind)) 1 0
   meets k = every-slot (λ i x. timesIn (links k t) i ≡ cond (waitsIn k (x .kind)) 1 0) t (chain-ok k .meets)
@@ -228,6 +239,7 @@ module _ (t : List ℕ) (ok : sound t ≡ true) where
 
   within : (k : Chain) → All (Fits k (read t .slots)) (chainOf k (read t))
   within ByDate = all (λ w. tt) (links ByDate t)
+  within Queue = queue-ok
   within ByTicks =
       all-map (λ w p.
       let is = slot-read t (w .slot) (p .0 .0) (p .0 .1) in
@@ -246,7 +258,7 @@ module _ (t : List ℕ) (ok : sound t ≡ true) where
 
   parts : Parts t (read t)
   parts = record {
-    heads = λ m p a b. heads m p a b;
+    heads = λ m p a b c. heads m p a b c;
     lay = λ k. subst (Lay k t) (sym (read-chain t k)) (linked-lay k t (links k t) (chain-ok k .head) (chain-ok k .linked));
     loose = λ i a b z. loose t i (slot-ok i a (omega (arith, slots-length t))) (λ k. idle k i a (omega (arith, slots-length t)) (z k));
     slots = λ i a b. sym (slot-read t i a (omega (arith, slots-length t)));
@@ -257,18 +269,18 @@ module _ (t : List ℕ) (ok : sound t ≡ true) where
       bit (suc zero) p = refl
       bit (suc (suc n)) p = absurd (omega arith)
 
-      heads : (m : ℕ) → m < 10 → m ≢ 5 → m ≢ 6 → word t m ≡ getD (headWords (read t)) m 0
-      heads = each-at (λ m n. m ≢ 5 → m ≢ 6 → word t m ≡ n) 0 (headWords (read t)) (
-          (λ _ _. sym (slots-length t))
-          & (λ _ _. refl)
-          & (λ _ _. bit (clockSet t) (sound-header .set))
-          & (λ _ _. refl)
-          & (λ _ _. refl)
-          & (λ a _. absurd (a refl))
-          & (λ _ b. absurd (b refl))
-          & (λ _ _. sound-header .seven)
-          & (λ _ _. sound-header .eight)
-          & (λ _ _. sound-header .nine)
+      heads : (m : ℕ) → m < 10 → m ≢ 5 → m ≢ 6 → m ≢ 9 → word t m ≡ getD (headWords (read t)) m 0
+      heads = each-at (λ m n. m ≢ 5 → m ≢ 6 → m ≢ 9 → word t m ≡ n) 0 (headWords (read t)) (
+          (λ _ _ _. sym (slots-length t))
+          & (λ _ _ _. refl)
+          & (λ _ _ _. bit (clockSet t) (sound-header .set))
+          & (λ _ _ _. refl)
+          & (λ _ _ _. refl)
+          & (λ a _ _. absurd (a refl))
+          & (λ _ b _. absurd (b refl))
+          & (λ _ _ _. sound-header .seven)
+          & (λ _ _ _. bit (word t 8) (sound-header .eight))
+          & (λ _ _ c. absurd (c refl))
           & end)
 
       idle : (k : Chain) (i : ℕ) → 0 < i → i ≤ slotCount t → timesIn (chainOf k (read t)) i ≡ 0 → waitsIn k (kindOf t i) ≡ false
@@ -295,7 +307,7 @@ module _ (t : List ℕ) (ok : sound t ≡ true) where
         unset = λ e.
             let z = sound-header .unset e in
             (z .0, z .1, none (links ByDate t) (chain-ok ByDate .in-slots) (sym (chain-ok ByDate .head) ∙ z .2));
-        shape = every-slot (λ _ x. Shape x) t (λ i a b. shape t i (slot-ok i a b)) (λ _ _. free-shape);
+        shape = every-slot (λ _ x. Shape (eqb (word t 8) 1) x) t (λ i a b. shape t i (slot-ok i a b)) (λ _ _. free-shape (eqb (word t 8) 1));
         ticks = first-low (links ByTicks t) (ticks-ok .0) (rises ByTicks);
         dates = all-map (λ w p. (p .0, leb-true (w .wait) lastSecond (p .1))) (links ByDate t)
             (all-zip (λ w. suc (seconds t) ≤ w .wait) (λ w. leb (w .wait) lastSecond ≡ true) (links ByDate t) (rise .0)

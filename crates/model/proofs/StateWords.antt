@@ -10,7 +10,7 @@ use lib.ListN.{length, getD, drop, length-drop, List·getD-append}
 use lib.Seq.{ext-getD, getD-drop, getD-append-add, drop-append-add}
 use lib.Dec.{ltb, eqb}
 use borrow.Author.Tests.{ltb-true, ltb-false, eqb-true, eqb-false, eq-eqb}
-use Rattle.model.specs.Kinds.{Chain, ByTicks, ByDate}
+use Rattle.model.specs.Kinds.{Chain, ByTicks, ByDate, Queue}
 use Rattle.model.specs.State.{Slot, Link, State, chainOf, free, slotAt}
 use Rattle.model.specs.Words.{first, difference, nextIn, previousIn, waitIn, sumOf, slotWords, allSlots, write, writtenOver, word, field, headWord, accumulated, slotFrom, ticksInto, waitOf, nextOf, previousOf}
 use Rattle.model.proofs.ListLaws.{cases}
@@ -23,7 +23,7 @@ use Rattle.model.proofs.Chains.{times-own, once-all, once, met-in-range
 abbrev pub headWords : State → List ℕ
 headWords s =
     length (s .slots) ∷ s .clock .perSecond ∷ cond (s .clock .isSet) 1 0 ∷ s .clock .second ∷ s .clock .ticksInto
-    ∷ first (s .ticking) ∷ first (s .dated) ∷ 0 ∷ 0 ∷ 0 ∷ []
+    ∷ first (s .ticking) ∷ first (s .dated) ∷ 0 ∷ cond (s .server) 1 0 ∷ first (s .queue) ∷ []
 
 length-slots : (s : State) (i : ℕ) (xs : List Slot) (rest : List ℕ) → length (allSlots s i xs rest) ≡ 8 * length xs + length rest
 length-slots s i [] rest = omega arith
@@ -142,7 +142,7 @@ pub record Loose (t : List ℕ) (i : ℕ) : Type 0 where
   pub previous : previousOf t i ≡ 0
 
 pub record Parts (t : List ℕ) (s : State) : Type 0 where
-  pub heads : (m : ℕ) → m < 10 → m ≢ 5 → m ≢ 6 → word t m ≡ getD (headWords s) m 0
+  pub heads : (m : ℕ) → m < 10 → m ≢ 5 → m ≢ 6 → m ≢ 9 → word t m ≡ getD (headWords s) m 0
   pub lay : (k : Chain) → Lay k t (chainOf k s)
   pub loose : (i : ℕ) → 0 < i → i ≤ length (s .slots) → ((k : Chain) → timesIn (chainOf k s) i ≡ 0) → Loose t i
   pub slots : (i : ℕ) → 0 < i → i ≤ length (s .slots) → slotFrom t i ≡ slotAt (s .slots) i
@@ -171,11 +171,14 @@ by-chain s i one none =
     (λ e. one ByTicks (ltb-true 0 (timesIn (s .ticking) i) e))
     (λ e. cases (ltb 0 (timesIn (s .dated) i))
     (λ f. one ByDate (ltb-true 0 (timesIn (s .dated) i) f))
-    (λ f. none (neither (ltb-false 0 (timesIn (s .ticking) i) e) (ltb-false 0 (timesIn (s .dated) i) f))))
+    (λ f. cases (ltb 0 (timesIn (s .queue) i))
+    (λ g. one Queue (ltb-true 0 (timesIn (s .queue) i) g))
+    (λ g. none (neither (ltb-false 0 (timesIn (s .ticking) i) e) (ltb-false 0 (timesIn (s .dated) i) f) (ltb-false 0 (timesIn (s .queue) i) g)))))
   where
-    neither : timesIn (s .ticking) i ≤ 0 → timesIn (s .dated) i ≤ 0 → (k : Chain) → timesIn (chainOf k s) i ≡ 0
-    neither a b ByTicks = omega arith
-    neither a b ByDate = omega arith
+    neither : timesIn (s .ticking) i ≤ 0 → timesIn (s .dated) i ≤ 0 → timesIn (s .queue) i ≤ 0 → (k : Chain) → timesIn (chainOf k s) i ≡ 0
+    neither a b c ByTicks = omega arith
+    neither a b c ByDate = omega arith
+    neither a b c Queue = omega arith
 
 -- a number that a chain gives to a slot, 0 where the slot is not in it: wait, next or previous
 record Reading : Type 0 where
@@ -197,11 +200,19 @@ module _ (s : State) (h : Chained s) (r : Reading) (i : ℕ) where
   sum = sumOf (λ k c. r .of k c i) s
 
   sum-in : (k : Chain) → 0 < timesIn (chainOf k s) i → sum ≡ r .of k (chainOf k s) i
-  sum-in ByTicks m = omega (arith, r .none ByDate (s .dated) i (omega (arith, m, once-all s h i)))
-  sum-in ByDate m = omega (arith, r .none ByTicks (s .ticking) i (omega (arith, m, once-all s h i)))
+  sum-in ByTicks m =
+      let o = once-all s h i in
+      omega (arith, r .none ByDate (s .dated) i (omega arith), r .none Queue (s .queue) i (omega arith))
+  sum-in ByDate m =
+      let o = once-all s h i in
+      omega (arith, r .none ByTicks (s .ticking) i (omega arith), r .none Queue (s .queue) i (omega arith))
+  sum-in Queue m =
+      let o = once-all s h i in
+      omega (arith, r .none ByTicks (s .ticking) i (omega arith), r .none ByDate (s .dated) i (omega arith))
 
   sum-none : ((k : Chain) → timesIn (chainOf k s) i ≡ 0) → sum ≡ 0
-  sum-none z = omega (arith, r .none ByTicks (s .ticking) i (z ByTicks), r .none ByDate (s .dated) i (z ByDate))
+  sum-none z =
+      omega (arith, r .none ByTicks (s .ticking) i (z ByTicks), r .none ByDate (s .dated) i (z ByDate), r .none Queue (s .queue) i (z Queue))
 
   sum-is : (n : ℕ) → ((k : Chain) → 0 < timesIn (chainOf k s) i → n ≡ r .of k (chainOf k s) i)
       → (((k : Chain) → timesIn (chainOf k s) i ≡ 0) → n ≡ 0) → n ≡ sumOf (λ k c. r .of k c i) s
@@ -210,7 +221,7 @@ module _ (s : State) (h : Chained s) (r : Reading) (i : ℕ) where
 module _ (t : List ℕ) (s : State) (h : Chained s) where
   spelled-parts : Spelled t s → Parts t s
   spelled-parts e = record {
-    heads = λ m p _ _. e .heads m p;
+    heads = λ m p _ _ _. e .heads m p;
     lay = λ k. record {
       links = λ p m. link k p m;
       previous = λ i m. let a = met-in-range s h k i m in e .body i 7 (omega arith) (a .0) (a .1) ∙ sum-in s h thePrevious i k m;
@@ -233,6 +244,7 @@ module _ (t : List ℕ) (s : State) (h : Chained s) where
       head : (k : Chain) → word t (headWord k) ≡ first (chainOf k s)
       head ByTicks = e .heads 5 (omega arith)
       head ByDate = e .heads 6 (omega arith)
+      head Queue = e .heads 9 (omega arith)
 
       link : (k : Chain) (p : ℕ) → (0 < p → 0 < timesIn (chainOf k s) p) → word t (linkWord k p) ≡ linkIn (chainOf k s) p
       link k zero m = head k
@@ -249,7 +261,9 @@ module _ (t : List ℕ) (s : State) (h : Chained s) where
           (λ f. let z : m ≡ 5 = eqb-true m 5 f in rw z (e .lay ByTicks .links 0 (λ q. absurd (omega arith))))
           (λ f. cases (eqb m 6)
           (λ g. let z : m ≡ 6 = eqb-true m 6 g in rw z (e .lay ByDate .links 0 (λ q. absurd (omega arith))))
-          (λ g. e .heads m p (eqb-false m 5 f) (eqb-false m 6 g)))
+          (λ g. cases (eqb m 9)
+          (λ i. let z : m ≡ 9 = eqb-true m 9 i in rw z (e .lay Queue .links 0 (λ q. absurd (omega arith))))
+          (λ i. e .heads m p (eqb-false m 5 f) (eqb-false m 6 g) (eqb-false m 9 i))))
 
       body : (i : ℕ) → 0 < i → i ≤ length (s .slots) → (f : ℕ) → f < 8 → field t i f ≡ getD (slotWords s i (slotAt (s .slots) i) []) f 0
       body i a b = each-at (λ f n. field t i f ≡ n) 0 (slotWords s i (slotAt (s .slots) i) []) (
@@ -275,10 +289,12 @@ parts-holds t s h p long = record { is = spelled-over t s (parts-spelled t s h p
 pub difference-total : (k : Chain) (b n : ℕ) → difference k b (accumulated k b n) ≡ n
 difference-total ByTicks b n = omega arith
 difference-total ByDate b n = refl
+difference-total Queue b n = refl
 
 pub total-difference : (k : Chain) (b n : ℕ) → b ≤ n → accumulated k b (difference k b n) ≡ n
 total-difference ByTicks b n p = omega arith
 total-difference ByDate b n p = refl
+total-difference Queue b n p = refl
 
 -- the link w stands in the table t between the slot p, of wait b, and the slot n
 pub record Stands (k : Chain) (t : List ℕ) (p b : ℕ) (w : Link) (n : ℕ) : Type 0 where

@@ -1,7 +1,7 @@
 -- No refusal's number is 0, the number of a call that is done. Assumes nothing.
 use mathlib.Core.Path.{_≡_}
 use native.Mathlib.Omega.{arith}
-use Rattle.model.specs.Status.{Status, InvalidName, InvalidId, TooMany, InvalidSize, InvalidAddress, InvalidNumber, NotDefined, Unsatisfied, InvalidClock, NotSound, ListTooShort, numberOf}
+use Rattle.model.specs.Status.{Status, InvalidName, InvalidId, TooMany, InvalidSize, InvalidAddress, InvalidNumber, NotDefined, Unsatisfied, IncorrectState, InvalidClock, NotSound, ListTooShort, numberOf}
 
 pub not-zero : (s : Status) → numberOf s ≡ 0 → ⊥
 not-zero InvalidName z = omega arith
@@ -12,6 +12,7 @@ not-zero InvalidAddress z = omega arith
 not-zero InvalidNumber z = omega arith
 not-zero NotDefined z = omega arith
 not-zero Unsatisfied z = omega arith
+not-zero IncorrectState z = omega arith
 not-zero InvalidClock z = omega arith
 not-zero NotSound z = omega arith
 not-zero ListTooShort z = omega arith

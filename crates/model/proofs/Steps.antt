@@ -4,22 +4,22 @@ use mathlib.Core.Path.{_≡_, refl, sym, ap, _∙_, subst}
 use Prim.Native.Nat.{ℕ, suc, _+_, _-_, _≤_, _<_}
 use native.Mathlib.Omega.{arith}
 use mathlib.Core.Bool.{Bool, true, false, cond, not}
-use mathlib.Core.List.{List, [], _∷_, map}
-use lib.ListN.{length, replicate, length-replicate}
+use mathlib.Core.List.{List, [], _∷_, _++_, map}
+use lib.ListN.{length, take, drop, replicate, length-replicate}
 use lib.Dec.{leb, ltb, eqb}
 use borrow.Author.Tests.{eqb-true, eqb-false, eq-eqb, ne-eqb, not-true}
 use Rattle.model.specs.Lists.{keep, place, All, Sorted}
-use Rattle.model.specs.Kinds.{Chain, ByTicks, ByDate, Mode, kindAt, chainFor, sameChain, waitsIn}
+use Rattle.model.specs.Kinds.{Chain, ByTicks, ByDate, Queue, Mode, kindAt, chainFor, sameChain, waitsIn, intervalIn}
 use Rattle.model.specs.State.{Slot, Link, Clock, State, chainOf, withChain, withClock, free, slotAt, putAt, without}
-use Rattle.model.specs.Directives.{laidOut, stored, stopped, intervalIn, waitingAs, started, fired, firedAll, due, off, fire, closer, nearer}
-use Rattle.model.proofs.ListLaws.{cases, all, all-map, keep-on, keep-none, map-on, all-keep, all-passed, all-zip, all-place, all-mapped, sorted-place, not-leb, count-place, any-some, any-none, sorted-keep, count-parts}
+use Rattle.model.specs.Directives.{laidOut, stored, stopped, inserted, waitingAs, started, fired, firedAll, waitAgain, due, off, fire, front, handedOut, initiated, closer, nearer}
+use Rattle.model.proofs.ListLaws.{cases, clash, all, all-map, keep-on, keep-none, map-on, all-keep, all-passed, all-zip, all-place, all-mapped, sorted-place, not-leb, count-place, any-some, any-none, sorted-keep, count-parts}
 use Rattle.model.proofs.Slots.{at-same, at-other, length-put, put-at, blank, memo, memo-firedAll, length-firedAll}
 use Rattle.model.proofs.WellFormed.{timesIn, Within, Fits, Chained}
 use Rattle.model.proofs.Chains.{times-closer, times-without, times-other, without-none, met, once, once-apart}
-use Rattle.model.proofs.KindLaws.{own-chain, each-chain, mode-in}
-use Rattle.model.proofs.Order.{orderOn, all-orderOn, sorted-orderOn, count-orderOn}
-pub use Rattle.model.proofs.GoingBack.{with-chain-slots, with-chain-clock, with-chain-own, with-chain-apart}
-use Rattle.model.proofs.GoingBack.{goesTo, again, backIn, goBack-slots, goBack-clock, goBack-chain}
+use Rattle.model.proofs.KindLaws.{own-chain, each-chain, queued-not-again, mode-in, not-queue}
+use Rattle.model.proofs.Order.{orderOn, all-orderOn, sorted-orderOn, count-orderOn, orderOn-flat}
+pub use Rattle.model.proofs.GoingOn.{with-chain-slots, with-chain-clock, with-chain-server, with-chain-own, with-chain-apart}
+use Rattle.model.proofs.GoingOn.{goesTo, again, backIn, goOn-slots, goOn-clock, goOn-server, goOn-chain}
 use Rattle.model.proofs.FiredSlots.{among, at-firedAll}
 
 sorted-closer : (l : List Link) → Sorted (λ w. w .wait) l → Sorted (λ w. w .wait) (map closer l)
@@ -123,15 +123,16 @@ module _ (k : Chain) (slots : List Slot) (l : List Link) (h : Ordered k slots l)
     rises = sorted-orderOn (λ w. w .wait) rest (backIn k fs ws) r;
     within = all-orderOn (Fits k fs) (λ w. w .wait) rest (backIn k fs ws)
         (all-map (λ w p. subst (Within k (w .wait)) (sym (ap (λ m. m .interval) (memo-firedAll ws slots (w .slot)))) p) rest b)
-        (all-mapped (again fs) (Fits k fs) (keep (goesTo k fs) ws) (all (λ w. own-interval k (slotAt fs (w .slot) .interval)) (keep (goesTo k fs) ws)));
+        (all-mapped (again k fs) (Fits k fs) (keep (goesTo k fs) ws) (all (λ w. own-interval k (slotAt fs (w .slot) .interval)) (keep (goesTo k fs) ws)));
   }
     where
       fs : List Slot
       fs = firedAll ws slots
 
-      own-interval : (k : Chain) (n : ℕ) → Within k n n
+      own-interval : (k : Chain) (n : ℕ) → Within k (waitAgain k n) n
       own-interval ByTicks n = omega arith
       own-interval ByDate n = tt
+      own-interval Queue n = refl
 
       -- slot j goes back as often as it is among ws, if it does
       times-back : (j : ℕ) → timesIn (backIn k fs ws) j ≡ cond (waitsIn k (slotAt fs j .kind)) (timesIn ws j) 0
@@ -173,6 +174,7 @@ module _ (s : State) (i : ℕ) (x : Slot) where
   pub stored-chain : (k : Chain) → chainOf k (stored s i x) ≡ chainOf k s
   stored-chain ByTicks = refl
   stored-chain ByDate = refl
+  stored-chain Queue = refl
 
   pub length-stopped : length (stopped s i x .slots) ≡ length (s .slots)
   length-stopped = length-put (s .slots) i x
@@ -180,6 +182,7 @@ module _ (s : State) (i : ℕ) (x : Slot) where
   pub stopped-chain : (k : Chain) → chainOf k (stopped s i x) ≡ without i (chainOf k s)
   stopped-chain ByTicks = refl
   stopped-chain ByDate = refl
+  stopped-chain Queue = refl
 
 module _ (s : State) (h : Chained s) (i : ℕ) (x : Slot) (low : 0 < i) (high : i ≤ length (s .slots)) where
   few-put : length (putAt (s .slots) i x) ≤ 255
@@ -198,39 +201,67 @@ module _ (s : State) (h : Chained s) (i : ℕ) (x : Slot) (low : 0 < i) (high : 
   pub chained-stopped : ((k : Chain) → waitsIn k (x .kind) ≡ false) → Chained (stopped s i x)
   chained-stopped n = chained (stopped s i x) few-put (λ k. ordered-stopped k (n k))
 
+-- slot i becomes x and goes into chain k, where its kind waits
+pub chained-inserted : (k : Chain) (s : State) → Chained s → (i amount : ℕ) (x : Slot) → 0 < i → i ≤ length (s .slots)
+    → ((j : Chain) → waitsIn j (x .kind) ≡ sameChain j k) → Within k amount (x .interval) → Chained (inserted k (stopped s i x) i amount)
+chained-inserted k s h i amount x low high only within =
+    rw (stopped-chain s i x k) (
+    chained-with-chain (stopped s i x) (putAt (s .slots) i x) (place (λ w. w .wait) (record { slot = i; wait = amount }) (without i (chainOf k s))) k
+    (few-put s h i x low high)
+    (ordered-place k (s .slots) (chainOf k s) (ordered s h k) i amount x low high (only k ∙ own-chain k) within)
+    (λ j e. ordered-stopped s h i x low high j (only j ∙ e)))
+
+pub length-inserted : (k : Chain) (s : State) (i amount : ℕ) (x : Slot) → length (inserted k (stopped s i x) i amount .slots) ≡ length (s .slots)
+length-inserted k s i amount x = simp (with-chain-slots, length-put)
+
 module _ (m : Mode) (s : State) where
   pub chained-started : Chained s → (i amount r u : ℕ) → 0 < i → i ≤ length (s .slots) → Chained (started m s i amount r u)
   chained-started h i amount r u low high =
-      let k = chainFor m in
-      let x : Slot = waitingAs m (slotAt (s .slots) i) amount r u in
-      rw (stopped-chain s i x k) (
-      chained-with-chain (stopped s i x) (putAt (s .slots) i x) (place (λ w. w .wait) (record { slot = i; wait = amount }) (without i (chainOf k s))) k
-      (few-put s h i x low high)
-      (ordered-place k (s .slots) (chainOf k s) (ordered s h k) i amount x low high (mode-in m k ∙ own-chain k) (fits k))
-      (λ j e. ordered-stopped s h i x low high j (mode-in m j ∙ e)))
+      chained-inserted (chainFor m) s h i amount (waitingAs m (slotAt (s .slots) i) amount r u) low high (mode-in m) (fits (chainFor m) (not-queue m))
     where
-      fits : (k : Chain) → Within k amount (intervalIn k amount)
-      fits ByTicks = omega arith
-      fits ByDate = tt
+      fits : (k : Chain) → sameChain Queue k ≡ false → Within k amount (intervalIn k amount)
+      fits ByTicks e = omega arith
+      fits ByDate e = tt
+      fits Queue e = clash e
 
   pub length-started : (i amount r u : ℕ) → length (started m s i amount r u .slots) ≡ length (s .slots)
-  length-started i amount r u = simp (with-chain-slots, length-put)
+  length-started i amount r u = length-inserted (chainFor m) s i amount (waitingAs m (slotAt (s .slots) i) amount r u)
 
 -- ---- fired, a tick nearer, at another time, laid out
+
+pub initiated-chain : (s : State) (k : Chain) → chainOf k (initiated s) ≡ chainOf k s
+initiated-chain s ByTicks = refl
+initiated-chain s ByDate = refl
+initiated-chain s Queue = refl
 
 pub with-clock-chain : (s : State) (c : Clock) (k : Chain) → chainOf k (withClock s c) ≡ chainOf k s
 with-clock-chain s c ByTicks = refl
 with-clock-chain s c ByDate = refl
+with-clock-chain s c Queue = refl
+
+-- two states are the same where their parts are
+pub same-state : (s s′ : State) → s .slots ≡ s′ .slots → s .clock ≡ s′ .clock → s .server ≡ s′ .server → ((m : Chain) → chainOf m s ≡ chainOf m s′) → s ≡ s′
+same-state s s′ slots clock server chains = λ d. record {
+  slots = slots d;
+  clock = clock d;
+  ticking = chains ByTicks d;
+  dated = chains ByDate d;
+  server = server d;
+  queue = chains Queue d;
+}
 
 module _ (k : Chain) (limit : ℕ) (s : State) where
   pub fire-slots : fire k limit s .slots ≡ firedAll (due k limit s) (s .slots)
-  fire-slots = goBack-slots (due k limit s) (off k limit s) ∙ with-chain-slots s (firedAll (due k limit s) (s .slots)) (keep (λ w. ltb limit (w .wait)) (chainOf k s)) k
+  fire-slots = goOn-slots (due k limit s) (off k limit s) ∙ with-chain-slots s (firedAll (due k limit s) (s .slots)) (keep (λ w. ltb limit (w .wait)) (chainOf k s)) k
 
   pub memo-fire : (i : ℕ) → memo (slotAt (fire k limit s .slots) i) ≡ memo (slotAt (s .slots) i)
   memo-fire i = ap (λ (sl : List Slot). memo (slotAt sl i)) fire-slots ∙ memo-firedAll (due k limit s) (s .slots) i
 
   pub fire-clock : fire k limit s .clock ≡ s .clock
-  fire-clock = goBack-clock (due k limit s) (off k limit s) ∙ with-chain-clock s (firedAll (due k limit s) (s .slots)) (keep (λ w. ltb limit (w .wait)) (chainOf k s)) k
+  fire-clock = goOn-clock (due k limit s) (off k limit s) ∙ with-chain-clock s (firedAll (due k limit s) (s .slots)) (keep (λ w. ltb limit (w .wait)) (chainOf k s)) k
+
+  pub fire-server : fire k limit s .server ≡ s .server
+  fire-server = goOn-server (due k limit s) (off k limit s) ∙ with-chain-server s (firedAll (due k limit s) (s .slots)) (keep (λ w. ltb limit (w .wait)) (chainOf k s)) k
 
   pub length-fire : length (fire k limit s .slots) ≡ length (s .slots)
   length-fire = ap length fire-slots ∙ length-firedAll (due k limit s) (s .slots)
@@ -239,90 +270,129 @@ module _ (k : Chain) (limit : ℕ) (s : State) where
   pub fire-chain : (j : Chain) → chainOf j (fire k limit s)
       ≡ orderOn (λ w. w .wait) (chainOf j (off k limit s)) (backIn j (firedAll (due k limit s) (s .slots)) (due k limit s))
   fire-chain j =
-      goBack-chain (due k limit s) (off k limit s) j
+      goOn-chain (due k limit s) (off k limit s) j
       ∙ rw (with-chain-slots s (firedAll (due k limit s) (s .slots)) (keep (λ w. ltb limit (w .wait)) (chainOf k s)) k)
 
   -- the timers that are due, and those that are not, are the chain
-  due-parts : (j : ℕ) → timesIn (due k limit s) j + timesIn (keep (λ w. ltb limit (w .wait)) (chainOf k s)) j ≡ timesIn (chainOf k s) j
+  pub due-parts : (j : ℕ) → timesIn (due k limit s) j + timesIn (keep (λ w. ltb limit (w .wait)) (chainOf k s)) j ≡ timesIn (chainOf k s) j
   due-parts j = count-parts (λ w. eqb (w .slot) j) (λ w. leb (w .wait) limit) (λ w. ltb limit (w .wait)) (λ w. not-leb (w .wait) limit) (chainOf k s)
 
-  pub chained-fire : Chained s → Chained (fire k limit s)
-  chained-fire h = chained (fire k limit s) (omega (arith, length-fire, h .few)) (λ j. rw (fire-slots, fire-chain j) (each j))
-    where
-      ws : List Link
-      ws = due k limit s
+-- ---- some timers of a chain fire: ws are they, and rest the others of the chain
 
-      later : Link → Bool
-      later w = ltb limit (w .wait)
+module _ (k : Chain) (s : State) (h : Chained s) (ws rest : List Link)
+    (parts : (j : ℕ) → timesIn ws j + timesIn rest j ≡ timesIn (chainOf k s) j) where
+  abbrev fs : List Slot
+  fs = firedAll ws (s .slots)
 
-      one : (j : ℕ) → timesIn ws j ≤ 1
-      one j = omega (arith, due-parts j, once s h k j)
+  one-each : (j : ℕ) → timesIn ws j ≤ 1
+  one-each j = omega (arith, parts j, once s h k j)
 
-      each : (j : Chain) → Ordered j (firedAll ws (s .slots)) (orderOn (λ w. w .wait) (chainOf j (off k limit s)) (backIn j (firedAll ws (s .slots)) ws))
-      each = with-chain-each s (firedAll ws (s .slots)) (keep (λ w. ltb limit (w .wait)) (chainOf k s))
-          (λ j l. Ordered j (firedAll ws (s .slots)) (orderOn (λ w. w .wait) l (backIn j (firedAll ws (s .slots)) ws))) k
-          (let own = ordered s h k in
-          ordered-fired k (s .slots) (chainOf k s) own ws (keep later (chainOf k s)) one
-          (λ j e. omega (arith, any-some (λ w. eqb (w .slot) j) ws e, due-parts j, once s h k j))
-          (λ j e. omega (arith, any-none (λ w. eqb (w .slot) j) ws e, due-parts j))
-          (sorted-keep (λ w. w .wait) later (chainOf k s) (own .rises))
-          (all-keep (Fits k (s .slots)) later (chainOf k s) (own .within)))
-          (λ o apart.
-          let rest = ordered s h o in
-          ordered-fired o (s .slots) (chainOf o s) rest ws (chainOf o s) one
-          (λ j e. omega (arith, any-some (λ w. eqb (w .slot) j) ws e, due-parts j, once-apart s h o k apart j))
-          (λ j e. refl) (rest .rises) (rest .within))
+  -- each chain is in order, with those that go on to it
+  ordered-off : Sorted (λ w. w .wait) rest → All (Fits k (s .slots)) rest → (j : Chain)
+      → Ordered j fs (orderOn (λ w. w .wait) (chainOf j (withChain k s fs rest)) (backIn j fs ws))
+  ordered-off rises fits = with-chain-each s fs rest (λ j l. Ordered j fs (orderOn (λ w. w .wait) l (backIn j fs ws))) k
+      (ordered-fired k (s .slots) (chainOf k s) (ordered s h k) ws rest one-each
+      (λ j e. omega (arith, any-some (λ w. eqb (w .slot) j) ws e, parts j, once s h k j))
+      (λ j e. omega (arith, any-none (λ w. eqb (w .slot) j) ws e, parts j)) rises fits)
+      (λ o apart.
+      let own = ordered s h o in
+      ordered-fired o (s .slots) (chainOf o s) own ws (chainOf o s) one-each
+      (λ j e. omega (arith, any-some (λ w. eqb (w .slot) j) ws e, parts j, once-apart s h o k apart j))
+      (λ j e. refl) (own .rises) (own .within))
 
--- ---- which timers go back
-
-module _ (k : Chain) (limit : ℕ) (s : State) (h : Chained s) where
-  abbrev firing : List Link
-  firing = due k limit s
-
-  in-kinds : All (λ w. waitsIn k (slotAt (s .slots) (w .slot) .kind) ≡ true) (chainOf k s)
-  in-kinds = all-map (λ w p. in-kind (waitsIn k (slotAt (s .slots) (w .slot) .kind)) (omega (arith, p, h .meets k (w .slot)))) (chainOf k s) (met [] (chainOf k s))
+  pub back-kinds : All (λ w. waitsIn k (slotAt (s .slots) (w .slot) .kind) ≡ true) ws
+  back-kinds = all-map (λ w p. in-kind (waitsIn k (slotAt (s .slots) (w .slot) .kind)) (omega (arith, p, parts (w .slot), h .meets k (w .slot)))) ws (met [] ws)
     where
       in-kind : (b : Bool) → 0 < cond b 1 0 → b ≡ true
       in-kind true p = refl
       in-kind false p = absurd (omega arith)
 
   -- each that fires has the kind of one that fired
-  goes-fired : (j : Chain) → All (λ w. goesTo j (firedAll firing (s .slots)) w ≡ waitsIn j (kindAt (slotAt (s .slots) (w .slot) .kind) .whenFired)) firing
+  pub goes-fired : (j : Chain) → All (λ w. goesTo j fs w ≡ waitsIn j (kindAt (slotAt (s .slots) (w .slot) .kind) .whenFired)) ws
   goes-fired j = all-map (λ w p.
-      let a = cases (among firing (w .slot)) (λ e. e) (λ e. absurd (omega (arith, any-none (λ y. eqb (y .slot) (w .slot)) firing e))) in
+      let a = cases (among ws (w .slot)) (λ e. e) (λ e. absurd (omega (arith, any-none (λ y. eqb (y .slot) (w .slot)) ws e))) in
       let x = slotAt (s .slots) (w .slot) in
-      ap (λ (y : Slot). waitsIn j (y .kind))
-      (at-firedAll firing (s .slots) (w .slot) (omega (arith, due-parts k limit s (w .slot), once s h k (w .slot))) ∙ ap (λ (b : Bool). cond b (fired x) x) a))
-      firing (met [] firing)
+      ap (λ (y : Slot). waitsIn j (y .kind)) (at-firedAll ws (s .slots) (w .slot) (one-each (w .slot)) ∙ ap (λ (b : Bool). cond b (fired x) x) a))
+      ws (met [] ws)
 
-  -- those that go back into chain j, by the kinds that they had
-  pub back-is : (j : Chain) → backIn j (firedAll firing (s .slots)) firing
-      ≡ map (again (s .slots)) (keep (λ w. waitsIn j (kindAt (slotAt (s .slots) (w .slot) .kind) .whenFired)) firing)
+  -- those that go on to chain j, by the kinds that they had
+  pub back-is : (j : Chain) → backIn j (firedAll ws (s .slots)) ws
+      ≡ map (again j (s .slots)) (keep (λ w. waitsIn j (kindAt (slotAt (s .slots) (w .slot) .kind) .whenFired)) ws)
   back-is j =
       let goes : Link → Bool = λ w. waitsIn j (kindAt (slotAt (s .slots) (w .slot) .kind) .whenFired) in
-      ap (map (again (firedAll firing (s .slots)))) (keep-on (goesTo j (firedAll firing (s .slots))) goes firing (goes-fired j))
-      ∙ map-on (again (firedAll firing (s .slots))) (again (s .slots)) (keep goes firing)
-      (all (λ w. ap {B = Link} (λ (n : ℕ). record { slot = w .slot; wait = n }) (ap (λ m. m .interval) (memo-firedAll firing (s .slots) (w .slot)))) (keep goes firing))
+      ap (map (again j fs)) (keep-on (goesTo j fs) goes ws (goes-fired j))
+      ∙ map-on (again j fs) (again j (s .slots)) (keep goes ws)
+      (all (λ w. ap {B = Link} (λ (n : ℕ). record { slot = w .slot; wait = waitAgain j n }) (ap (λ m. m .interval) (memo-firedAll ws (s .slots) (w .slot))))
+      (keep goes ws))
 
-  pub back-kinds : All (λ w. waitsIn k (slotAt (s .slots) (w .slot) .kind) ≡ true) firing
-  back-kinds = all-keep (λ w. waitsIn k (slotAt (s .slots) (w .slot) .kind) ≡ true) (λ w. leb (w .wait) limit) (chainOf k s) in-kinds
+  -- none goes on to chain j where no kind of chain k does
+  pub none-back : (j : Chain) → ((n : ℕ) → waitsIn k n ≡ true → waitsIn j (kindAt n .whenFired) ≡ false) → backIn j (firedAll ws (s .slots)) ws ≡ []
+  none-back j never =
+      let goes : Link → Bool = λ w. waitsIn j (kindAt (slotAt (s .slots) (w .slot) .kind) .whenFired) in
+      back-is j ∙ ap (map (again j (s .slots))) (keep-none goes ws (all-map (λ w p. never (slotAt (s .slots) (w .slot) .kind) p) ws back-kinds))
 
-  -- none goes back into chain j where no kind of chain k does
+module _ (k : Chain) (limit : ℕ) (s : State) (h : Chained s) where
+  abbrev firing : List Link
+  firing = due k limit s
+
+  abbrev waiting-on : List Link
+  waiting-on = keep (λ w. ltb limit (w .wait)) (chainOf k s)
+
+  pub chained-fire : Chained (fire k limit s)
+  chained-fire = chained (fire k limit s) (omega (arith, length-fire k limit s, h .few)) (λ j.
+      rw (fire-slots k limit s, fire-chain k limit s j) (ordered-off k s h firing waiting-on (due-parts k limit s)
+      (sorted-keep (λ w. w .wait) (λ w. ltb limit (w .wait)) (chainOf k s) (h .rises k))
+      (all-keep (Fits k (s .slots)) (λ w. ltb limit (w .wait)) (chainOf k s) (h .within k)) j))
+
   module _ (j : Chain) (never : (n : ℕ) → waitsIn k n ≡ true → waitsIn j (kindAt n .whenFired) ≡ false) where
-    pub none-back : backIn j (firedAll firing (s .slots)) firing ≡ []
-    none-back =
-        let goes : Link → Bool = λ w. waitsIn j (kindAt (slotAt (s .slots) (w .slot) .kind) .whenFired) in
-        back-is j ∙ ap (map (again (s .slots))) (keep-none goes firing (all-map (λ w p. never (slotAt (s .slots) (w .slot) .kind) p) firing back-kinds))
-
     stays-off : chainOf j (fire k limit s) ≡ chainOf j (off k limit s)
-    stays-off = fire-chain k limit s j ∙ ap (orderOn (λ w. w .wait) (chainOf j (off k limit s))) none-back
+    stays-off = fire-chain k limit s j
+        ∙ ap (orderOn (λ w. w .wait) (chainOf j (off k limit s))) (none-back k s h firing waiting-on (due-parts k limit s) j never)
 
     pub fire-elsewhere : sameChain j k ≡ false → chainOf j (fire k limit s) ≡ chainOf j s
-    fire-elsewhere e = stays-off ∙ with-chain-apart s (firedAll firing (s .slots)) (keep (λ w. ltb limit (w .wait)) (chainOf k s)) k j e
+    fire-elsewhere e = stays-off ∙ with-chain-apart s (firedAll firing (s .slots)) waiting-on k j e
 
   pub fire-own : ((n : ℕ) → waitsIn k n ≡ true → waitsIn k (kindAt n .whenFired) ≡ false)
       → chainOf k (fire k limit s) ≡ keep (λ w. ltb limit (w .wait)) (chainOf k s)
-  fire-own never = stays-off k never ∙ with-chain-own s (firedAll firing (s .slots)) (keep (λ w. ltb limit (w .wait)) (chainOf k s)) k
+  fire-own never = stays-off k never ∙ with-chain-own s (firedAll firing (s .slots)) waiting-on k
+
+  -- the queue grows at its back
+  pub fire-queue : sameChain Queue k ≡ false → chainOf Queue (fire k limit s) ≡ s .queue ++ backIn Queue (firedAll (due k limit s) (s .slots)) (due k limit s)
+  fire-queue e =
+      let fs = firedAll firing (s .slots) in
+      fire-chain k limit s Queue
+      ∙ ap (λ (l : List Link). orderOn (λ w. w .wait) l (backIn Queue fs firing)) (with-chain-apart s fs waiting-on k Queue e)
+      ∙ orderOn-flat (λ w. w .wait) 0 (s .queue) (backIn Queue fs firing) (h .within Queue)
+      (all-mapped (again Queue fs) (λ w. w .wait ≡ 0) (keep (goesTo Queue fs) firing) (all (λ w. refl) (keep (goesTo Queue fs) firing)))
+
+-- ---- the front of the queue is handed out
+
+pub front-parts : (l : List Link) (j : ℕ) → timesIn (take 1 l) j + timesIn (drop 1 l) j ≡ timesIn l j
+front-parts [] j = refl
+front-parts (w ∷ ws) j = cases (eqb (w .slot) j) (λ e. rw e (omega arith)) (λ e. rw e (omega arith))
+
+pub chained-handed : (s : State) → Chained s → Chained (handedOut s)
+chained-handed s h =
+    chained (handedOut s) (omega (arith, length-firedAll (front s) (s .slots), h .few)) (λ j.
+    subst (λ (l : List Link). Ordered j (firedAll (front s) (s .slots)) (orderOn (λ w. w .wait) (chainOf j (handedOut s)) l))
+    (none-back Queue s h (front s) (drop 1 (s .queue)) (front-parts (s .queue)) j (queued-not-again j))
+    (ordered-off Queue s h (front s) (drop 1 (s .queue)) (front-parts (s .queue)) (sorted-drop (s .queue) (h .rises Queue)) (all-drop (s .queue) (h .within Queue)) j))
+  where
+    sorted-drop : (l : List Link) → Sorted (λ w. w .wait) l → Sorted (λ w. w .wait) (drop 1 l)
+    sorted-drop [] p = tt
+    sorted-drop (w ∷ ws) p = p .1
+
+    all-drop : (l : List Link) → All (Fits Queue (s .slots)) l → All (Fits Queue (s .slots)) (drop 1 l)
+    all-drop [] p = tt
+    all-drop (w ∷ ws) p = p .1
+
+pub chained-initiated : (s : State) → Chained s → Chained (initiated s)
+chained-initiated s h = record {
+  few = h .few;
+  meets = λ k. rw (initiated-chain s k) (h .meets k);
+  rises = λ k. rw (initiated-chain s k) (h .rises k);
+  within = λ k. rw (initiated-chain s k) (h .within k);
+}
 
 pub chained-nearer : (s : State) → Chained s → Chained (nearer s)
 chained-nearer s h =
@@ -344,6 +414,7 @@ module _ (n t : ℕ) where
   pub laid-chain : (k : Chain) → chainOf k (laidOut n t) ≡ []
   laid-chain ByTicks = refl
   laid-chain ByDate = refl
+  laid-chain Queue = refl
 
   pub chained-laid : n ≤ 255 → Chained (laidOut n t)
   chained-laid few = chained (laidOut n t) (omega (arith, length-laid)) (λ k. rw (laid-chain k) (empty k))

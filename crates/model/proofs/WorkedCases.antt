@@ -6,8 +6,8 @@ use mathlib.Core.Option.{some}
 use mathlib.Core.List.{List, [], _∷_, _++_, map}
 use lib.ListN.{replicate}
 use Rattle.calendar.specs.Calendar.{monthsOf, years, valid, secondsOf, dateOf}
-use Rattle.model.specs.Calls.{Call, layOut, create, ident, cancel, delete, fireAfter, fireWhen, fireEvery, reset, ticksLeft, tick, setClock, getClock}
-use Rattle.model.specs.Sound.{headerSound, slotSound, chainSound, ticksSound, datesSound, sound}
+use Rattle.model.specs.Calls.{Call, layOut, create, ident, cancel, delete, fireAfter, fireWhen, fireEvery, reset, ticksLeft, tick, setClock, getClock, initiateServer, serverFireAfter, serverFireWhen, serve, callNumber}
+use Rattle.model.specs.Sound.{headerSound, slotSound, chainSound, ticksSound, datesSound, queueSound, sound}
 use Rattle.model.specs.Outcome.{statusOn, outcome}
 use Rattle.model.specs.Kinds.{After, Every}
 use Rattle.model.specs.History.{startOf, laidOutFor, changes, oneTick, Placed, starts}
@@ -15,23 +15,23 @@ use Rattle.model.specs.Demand.{after}
 use Rattle.model.proofs.Cases.{Case, calls, computed, date, nine, unlent}
 
 -- the first and the second id, and lists of three and of six words
-abbrev one : ℕ
+abbrev pub one : ℕ
 one = 0x12010001
 
-abbrev two : ℕ
+abbrev pub two : ℕ
 two = 0x12010002
 
-abbrev three : List ℕ
+abbrev pub three : List ℕ
 three = replicate 3 99
 
-abbrev six : List ℕ
+abbrev pub six : List ℕ
 six = replicate 6 99
 
 -- a refusal, with the zero beside it
-abbrev no : ℕ → List ℕ
+abbrev pub no : ℕ → List ℕ
 no status = status ∷ 0 ∷ []
 
-abbrev yes : ℕ → List ℕ
+abbrev pub yes : ℕ → List ℕ
 yes answer = 0 ∷ answer ∷ []
 
 -- three timers, for 3 ticks, every 3 ticks and for 3 ticks, and three ticks
@@ -138,7 +138,7 @@ workedCases =
     (unlent 5 ++ (six ∷ (one ∷ 1 ∷ 10 ∷ three) ∷ (two ∷ 2 ∷ 20 ∷ three) ∷ (one ∷ 1 ∷ 10 ∷ three) ∷ six ∷ (two ∷ 2 ∷ 20 ∷ one ∷ 1 ∷ 10 ∷ []) ∷ []))
     (2 ∷ 10 ∷ 0 ∷ 0 ∷ 0 ∷ 1 ∷ 0 ∷ 0 ∷ 0 ∷ 0 ∷ 6 ∷ 1 ∷ 2 ∷ 2 ∷ 1 ∷ 10 ∷ 2 ∷ 0 ∷ 6 ∷ 2 ∷ 3 ∷ 1 ∷ 2 ∷ 20 ∷ 0 ∷ 1 ∷ [])
     -- Soundness and ticks left read 6 as 4 and 7 as 2: the wait is 1 to the interval and the slot is in the chain; the interval is 1 or more, and
-    -- wait and links are zero. There is no kind 8.
+    -- wait and links are zero. Where the server is not initiated there is no kind 8.
     ∷ asked (oneSlot 1 4 3 3) (yes 3) ∷ asked (oneSlot 1 6 3 3) (yes 3)
     ∷ asked (oneSlot 1 4 3 4) (no 100) ∷ asked (oneSlot 1 6 3 4) (no 100)
     ∷ asked (oneSlot 1 4 3 0) (no 100) ∷ asked (oneSlot 1 6 3 0) (no 100)
@@ -151,8 +151,17 @@ workedCases =
     ∷ []
 
 pub worked : map computed workedCases ≡ workedCases
-unfolding monthsOf years valid secondsOf dateOf headerSound slotSound chainSound ticksSound datesSound sound statusOn outcome
+unfolding monthsOf years valid secondsOf dateOf headerSound slotSound chainSound ticksSound datesSound queueSound sound statusOn outcome
 worked = refl
+
+-- ---- the calls' numbers: document 01's list from 1 on, then document 02's, item 8
+
+pub numbered : map callNumber
+    (layOut 1 10 ∷ create 1 ∷ ident 1 ∷ cancel 1 ∷ delete 1 ∷ fireAfter 1 1 1 1 ∷ fireWhen 1 (date 2000 1 1 0 0 0) 1 1 ∷ reset 1 ∷ ticksLeft 1 ∷ tick []
+    ∷ setClock (date 2000 1 1 0 0 0) [] ∷ getClock ∷ fireEvery 1 1 1 1 ∷ initiateServer ∷ serverFireAfter 1 1 1 1 ∷ serverFireWhen 1 (date 2000 1 1 0 0 0) 1 1
+    ∷ serve [] ∷ [])
+    ≡ 1 ∷ 2 ∷ 3 ∷ 4 ∷ 5 ∷ 6 ∷ 7 ∷ 8 ∷ 9 ∷ 10 ∷ 11 ∷ 12 ∷ 13 ∷ 15 ∷ 16 ∷ 17 ∷ 18 ∷ []
+numbered = refl
 
 -- ---- the order among equals
 
@@ -191,5 +200,5 @@ pub guarded-tables : tables (after (replicate 34 0) (layOut 3 10 ∷ create 1 �
     ∷ guardedTable 2 (slot 2 1 0 0 0) (slot 6 2 1 0 0) (slot 2 3 0 0 0)
     ∷ guardedTable 2 (slot 2 1 0 0 0) (slot 6 2 3 0 0) (slot 2 3 0 0 0)
     ∷ []
-unfolding headerSound slotSound chainSound ticksSound datesSound sound statusOn outcome
+unfolding headerSound slotSound chainSound ticksSound datesSound queueSound sound statusOn outcome
 guarded-tables = refl

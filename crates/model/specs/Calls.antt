@@ -26,6 +26,11 @@ pub data Call : Type 0 where
   tick : List ℕ → Call
   setClock : WallTime → List ℕ → Call
   getClock : Call
+  -- the timer server: initiate; starts as fire after and fire when; serve, with the lent list
+  initiateServer : Call
+  serverFireAfter : ℕ → ℕ → ℕ → ℕ → Call
+  serverFireWhen : ℕ → WallTime → ℕ → ℕ → Call
+  serve : List ℕ → Call
 
 -- the calls' numbers: from 1 by the list that opens document 01, then by document 02, item 8
 abbrev pub callNumber : Call → ℕ
@@ -42,6 +47,10 @@ callNumber (tick list) = 10
 callNumber (setClock w list) = 11
 callNumber getClock = 12
 callNumber (fireEvery id n r u) = 13
+callNumber initiateServer = 15
+callNumber (serverFireAfter id n r u) = 16
+callNumber (serverFireWhen id w r u) = 17
+callNumber (serve list) = 18
 
 -- lay out takes any slice of words, where every other call wants a sound table
 abbrev pub isLayOut : Call → Bool
@@ -62,6 +71,10 @@ lentTo (ticksLeft id) = []
 lentTo (tick list) = list
 lentTo (setClock w list) = list
 lentTo getClock = []
+lentTo initiateServer = []
+lentTo (serverFireAfter id n r u) = []
+lentTo (serverFireWhen id w r u) = []
+lentTo (serve list) = list
 
 -- how many numbers a call answers: get clock seven, any other one
 abbrev pub answerCount : Call → ℕ

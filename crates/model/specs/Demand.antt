@@ -1,20 +1,20 @@
 -- Demand 3: a single claim about every list of calls from every accepted lay out, the last definition here. Assumes nothing: these are definitions.
 use mathlib.Core.Path.{_≡_}
-use Prim.Native.Nat.{ℕ, _+_, _*_, _≤_}
+use Prim.Native.Nat.{ℕ, suc, _+_, _*_, _≤_}
 use mathlib.Core.Bool.{true, false, cond}
 use mathlib.Core.Option.{none, some}
 use mathlib.Core.List.{List, [], _∷_, _++_, map, reverse}
-use lib.ListN.{length, getD, replicate}
+use lib.ListN.{length, getD, take, replicate}
 use lib.Dec.{eqb}
 use Rattle.calendar.specs.declared.WallTime.{WallTime}
-use Rattle.model.specs.Lists.{keep, count, InOrder}
-use Rattle.model.specs.Calls.{Call, layOut, create, cancel, reset, tick, setClock, lentTo, answerCount}
-use Rattle.model.specs.Kinds.{Chain, ByTicks, ByDate, kindAt, chainFor}
-use Rattle.model.specs.State.{Slot, Link, slotAt, indexOf, names, Fired, listed}
-use Rattle.model.specs.Words.{first, sumOf, word, along, links, read, slotCount, ticksPerSecond, clockSet, seconds, ticksInto, previousOf}
+use Rattle.model.specs.Lists.{keep, any, count, InOrder}
+use Rattle.model.specs.Calls.{Call, layOut, create, cancel, reset, ticksLeft, tick, setClock, serve, lentTo, answerCount}
+use Rattle.model.specs.Kinds.{Chain, ByTicks, ByDate, Queue, kindAt, chainFor}
+use Rattle.model.specs.State.{Slot, Link, slotAt, waitAt, indexOf, names, Fired, listed}
+use Rattle.model.specs.Words.{first, sumOf, word, along, links, read, slotCount, ticksPerSecond, clockSet, seconds, ticksInto, serverInitiated, previousOf}
 use Rattle.model.specs.Sound.{sound}
 use Rattle.model.specs.Outcome.{outcome}
-use Rattle.model.specs.History.{Start, Event, changes, lastsAfter, Placed, Waiting, eventOf, eventsOn, perSecond, clockAfter, movesClock, starts, waits, fires, inChain, ticksLeftOrDate, waiting, entry}
+use Rattle.model.specs.History.{Start, Event, changes, lastStart, lastsAfter, Placed, Waiting, eventOf, eventsOn, perSecond, clockAfter, movesClock, starts, waits, fires, inChain, ticksLeftOrDate, waiting, entryOf, entry, isInitiated, servesIn, IsQueue, queuedAs, ends, serves, takenOff}
 
 -- Each call gets the table that the last one left.
 abbrev pub after : List ℕ → List Call → List ℕ
@@ -32,20 +32,27 @@ shown slots w =
     let x = slotAt slots (w .slot) in
     record { shows = listed slots w; mode = kindAt (x .kind) .last; interval = x .interval; wait = w .wait }
 
+-- The links of a chain show its own waiting timers in firing order, the earlier start first among equals, with their ticks left or dates, and
+-- the mode, interval, routine and data of their starts; those of the queue the queued ones; and nothing else.
+abbrev pub Shows : Chain → List Event → List Waiting → Type 0
+Shows ByTicks es shows = (l : List Placed) × InOrder ticksLeftOrDate (keep (inChain ByTicks) (keep waits (starts es))) l × (shows ≡ map waiting l)
+Shows ByDate es shows = (l : List Placed) × InOrder ticksLeftOrDate (keep (inChain ByDate) (keep waits (starts es))) l × (shows ≡ map waiting l)
+Shows Queue es shows = (q : List Start) × IsQueue es q × (shows ≡ map queuedAs q)
+
 -- What the table t has to be after these events.
 pub record Standing (t : List ℕ) (es : List Event) : Type 0 where
   pub is-sound : sound t ≡ true
-  -- Each chain gives its own waiting timers in firing order by next from word 5 or 6, the earlier start first among equals,
-  -- with their ticks left or dates, and the interval, routine and data of their starts; and nothing else.
-  pub by-next : (k : Chain) → (l : List Placed) × InOrder ticksLeftOrDate (keep (inChain k) (keep waits (starts es))) l
-      × (map (shown (read t .slots)) (links k t) ≡ map waiting l)
+  -- Each chain gives its own timers by next from word 5, 6 or 9.
+  pub by-next : (k : Chain) → Shows k es (map (shown (read t .slots)) (links k t))
   -- The same in reverse by previous from its last slot.
   pub by-previous : (k : Chain) → along (previousOf t) (slotCount t) (first (reverse (links k t))) ≡ map (λ w. w .slot) (reverse (links k t))
-  -- Each waiting timer stands there once.
+  -- Each waiting or queued timer stands there once.
   pub once : (i : ℕ) → sumOf (λ _ c. count (λ w. eqb (w .slot) i) c) (read t) ≤ 1
   -- The table's T and its clock, counted in ticks, are those of the events; it is unset where theirs is.
   pub rate : perSecond es ≡ ticksPerSecond t
   pub clock : clockAfter 0 es ≡ cond (eqb (clockSet t) 1) (some (seconds t * ticksPerSecond t + ticksInto t)) none
+  -- Word 8 says whether the server was initiated.
+  pub initiated : isInitiated es ≡ eqb (serverInitiated t) 1
 
 -- entry number i of a list, three words each: id, then routine and data
 pub record EntryAt (list : List ℕ) (i : ℕ) (f : Fired) : Type 0 where
@@ -61,14 +68,17 @@ pub record Begins (list lent : List ℕ) (fs : List Fired) : Type 0 where
 
 -- What the accepted call c, which is the event e, has to list on the table t after these events: the timers that fire in it, those due in this
 -- call and not ended before, interval ones first, each kind in firing order. A tick and a set clock answer their number, no other call fires
--- any, and there are never more than slots.
+-- any, and there are never more than slots. A serve lists the front of the queue, if there is one, and answers how many it lists.
 pub record Lists (t : List ℕ) (es : List Event) (c : Call) (e : Event) : Type 0 where
   pub ticking : List Placed
   pub dated : List Placed
   pub ticking-order : InOrder ticksLeftOrDate (keep (inChain ByTicks) (keep (fires e) (starts es))) ticking
   pub dated-order : InOrder ticksLeftOrDate (keep (inChain ByDate) (keep (fires e) (starts es))) dated
-  pub entries : Begins (outcome t c .list) (lentTo c) (map entry (ticking ++ dated))
+  pub queue : List Start
+  pub is-queue : IsQueue es queue
+  pub entries : Begins (outcome t c .list) (lentTo c) (map entry (ticking ++ dated) ++ map entryOf (take (servesIn e) queue))
   pub counted : movesClock e ≡ true → outcome t c .answer ≡ length (ticking ++ dated) ∷ []
+  pub served : (list : List ℕ) → c ≡ serve list → outcome t c .answer ≡ length (take 1 queue) ∷ []
   pub fires-none : movesClock e ≡ false → ticking ++ dated ≡ []
   pub few : length (ticking ++ dated) ≤ slotCount t
 
@@ -79,15 +89,18 @@ firstNumber answer = getD answer 0 0
 -- What is demanded of the call c, which is the event e where it is accepted, on the table t after these events.
 pub record Answers (t : List ℕ) (es : List Event) (c : Call) (e : Event) : Type 0 where
   pub lists : outcome t c .status ≡ 0 → Lists t es c e
-  -- A tick and a set clock are lent that list, no other call is.
+  -- A tick, a set clock and a serve are lent that list, no other call is (`lentTo`).
   pub lent-tick : (list : List ℕ) → c ≡ tick list → lentTo c ≡ list
   pub lent-set : (w : WallTime) (list : List ℕ) → c ≡ setClock w list → lentTo c ≡ list
-  -- A cancelled timer waits no more.
+  pub lent-serve : (list : List ℕ) → c ≡ serve list → lentTo c ≡ list
+  -- A cancelled timer is in no chain.
   pub cancels : (id : ℕ) → c ≡ cancel id → outcome t c .status ≡ 0
       → sumOf (λ _ l. count (λ w. eqb (w .slot) (indexOf id)) l) (read (outcome t c .table)) ≡ 0
-  -- An accepted reset is a start for ticks, of that timer's last start.
+  -- An accepted reset is a start for ticks, that timer's last start again.
   pub restarts : (id : ℕ) → c ≡ reset id → outcome t c .status ≡ 0
-      → (s : Start) × (e ≡ changes id (some s)) × (s .id ≡ id) × (chainFor (s .mode) ≡ ByTicks)
+      → (s : Start) × (e ≡ changes id (some s)) × (s .id ≡ id) × (chainFor (s .mode) ≡ ByTicks) × (lastStart id es ≡ some s)
+  -- Ticks left are those in the interval chain; 0 for a timer that is not there.
+  pub left : (id : ℕ) → c ≡ ticksLeft id → outcome t c .status ≡ 0 → outcome t c .answer ≡ waitAt (indexOf id) (links ByTicks t) ∷ []
   -- An id names a timer as long as it lasts; a create answers one that named none.
   pub lasts : outcome t c .status ≡ 0 → (id : ℕ)
       → names (read (outcome t c .table)) id ≡ lastsAfter c (firstNumber (outcome t c .answer)) id (names (read t) id)
@@ -99,6 +112,10 @@ pub record Answers (t : List ℕ) (es : List Event) (c : Call) (e : Event) : Typ
   pub refuses : (outcome t c .status ≡ 0 → ⊥)
       → (outcome t c .table ≡ t) × (outcome t c .list ≡ lentTo c) × (outcome t c .answer ≡ replicate (answerCount c) 0)
 
+-- a serve on the table t, where it is accepted, hands out that start's timer and answers 1
+abbrev pub HandsOut : List ℕ → List ℕ → Start → Type 0
+HandsOut t list s = outcome t (serve list) .status ≡ 0 → (outcome t (serve list) .answer ≡ 1 ∷ []) × Begins (outcome t (serve list) .list) list (entryOf s ∷ [])
+
 -- what the accepted calls of a list mean, the latest first
 abbrev pub eventsAfter : List ℕ → List Call → List Event
 eventsAfter w cs = eventsOn [] (acceptedIn w cs)
@@ -109,6 +126,13 @@ pub record Demanded (w : List ℕ) (n t : ℕ) (cs : List Call) : Type 0 where
   pub standing : (xs ys : List Call) → xs ++ ys ≡ cs → Standing (after w (layOut n t ∷ xs)) (eventsAfter w (layOut n t ∷ xs))
   pub answers : (xs ys : List Call) (c : Call) → xs ++ (c ∷ ys) ≡ cs →
       Answers (after w (layOut n t ∷ xs)) (eventsAfter w (layOut n t ∷ xs)) c (eventOf (eventsAfter w (layOut n t ∷ xs)) c)
+  -- A timer at place q of the queue is handed out by the qth accepted serve after, one sooner for each taken off ahead of it, unless it is taken
+  -- off itself or a lay out comes: after the calls xs it stands behind `ahead`; `more` are the events of the calls ys after those.
+  pub in-turn : (xs ys zs : List Call) (list : List ℕ) → xs ++ (ys ++ (serve list ∷ zs)) ≡ cs
+      → (ahead behind : List Start) (s : Start) → IsQueue (eventsAfter w (layOut n t ∷ xs)) (ahead ++ (s ∷ behind))
+      → (more : List Event) → eventsAfter w (layOut n t ∷ xs ++ ys) ≡ more ++ eventsAfter w (layOut n t ∷ xs)
+      → any (ends (s .id)) more ≡ false → suc (serves more) + takenOff more ahead ≡ suc (length ahead)
+      → HandsOut (after w (layOut n t ∷ xs ++ ys)) list s
 
 -- The single claim: every slice, every accepted lay out on it, every list of calls.
 abbrev pub Demand3 : Type 0

@@ -4,14 +4,14 @@ use Prim.Native.Nat.{ℕ, suc, _+_, _-_, _*_}
 use mathlib.Core.Bool.{Bool, true, false, cond, not, _&&_}
 use mathlib.Core.Option.{Option, none, some}
 use mathlib.Core.List.{List, [], _∷_, _++_, map}
-use lib.ListN.{length, replicate}
+use lib.ListN.{length, take, drop, replicate}
 use lib.Dec.{leb, ltb, eqb}
 use Rattle.calendar.specs.declared.WallTime.{WallTime}
 use Rattle.calendar.specs.Calendar.{allOf, valid, secondsOf, lastSecond, dateOf}
 use Rattle.model.specs.Lists.{keep, place}
-use Rattle.model.specs.Status.{Refusal, when, InvalidName, InvalidId, TooMany, InvalidSize, InvalidAddress, InvalidNumber, NotDefined, InvalidClock, NotSound, ListTooShort}
-use Rattle.model.specs.Calls.{Call, layOut, create, ident, cancel, delete, fireAfter, fireWhen, fireEvery, reset, ticksLeft, tick, setClock, getClock}
-use Rattle.model.specs.Kinds.{Chain, ByTicks, ByDate, Mode, After, When, Every, kindAt, chainFor, waitingKind, lastByTicks, lastMode}
+use Rattle.model.specs.Status.{Refusal, when, InvalidName, InvalidId, TooMany, InvalidSize, InvalidAddress, InvalidNumber, NotDefined, IncorrectState, InvalidClock, NotSound, ListTooShort}
+use Rattle.model.specs.Calls.{Call, layOut, create, ident, cancel, delete, fireAfter, fireWhen, fireEvery, reset, ticksLeft, tick, setClock, getClock, initiateServer, serverFireAfter, serverFireWhen, serve}
+use Rattle.model.specs.Kinds.{Chain, ByTicks, ByDate, Queue, Mode, After, When, Every, ServerAfter, ServerWhen, kindAt, chainFor, waitingKind, intervalIn, lastByTicks, forServer, lastMode}
 use Rattle.model.specs.Sound.{sound}
 use Rattle.model.specs.State.{Slot, Link, Clock, State, chainOf, withChain, withClock, free, slotAt, putAt, lowest, without, waitAt, idBase, indexOf, names}
 
@@ -42,17 +42,28 @@ unsound t = when NotSound (not (sound t))
 abbrev pub noSuchId : State → ℕ → Refusal
 noSuchId s id = when InvalidId (not (names s id))
 
--- the rules of a start for ticks: 10, 9, 4
+-- Initiate a second time since the lay out, or another call of the server before it.
+abbrev pub alreadyInitiated : State → Refusal
+alreadyInitiated s = when IncorrectState (s .server)
+
+abbrev pub notInitiated : State → Refusal
+notInitiated s = when IncorrectState (not (s .server))
+
+-- the rules of a start for ticks: 10, 9, 4; and of one for a date: 11, 9, 20, 4
 abbrev pub startRules : State → ℕ → ℕ → ℕ → List Refusal
 startRules s id n r = when InvalidNumber (eqb n 0) ∷ when InvalidAddress (eqb r 0) ∷ noSuchId s id ∷ []
 
+abbrev pub dateRules : State → ℕ → WallTime → ℕ → List Refusal
+dateRules s id d r =
+    when NotDefined (not (s .clock .isSet)) ∷ when InvalidAddress (eqb r 0) ∷ when InvalidClock (notAhead s d) ∷ noSuchId s id ∷ []
+
 -- ---- the parts of the calls' work
 
--- Lay out: header as given, clock not set, all slots free.
+-- Lay out: header as given, clock not set, server not initiated, all slots free.
 abbrev pub laidOut : ℕ → ℕ → State
 laidOut n t =
     let clock : Clock = record { perSecond = t; isSet = false; second = 0; ticksInto = 0 } in
-    record { slots = replicate n free; clock = clock; ticking = []; dated = [] }
+    record { slots = replicate n free; clock = clock; ticking = []; dated = []; server = false; queue = [] }
 
 -- slot i, in no chain, becomes x
 abbrev pub stored : State → ℕ → Slot → State
@@ -62,41 +73,36 @@ stored s i x = withChain ByTicks s (putAt (s .slots) i x) (s .ticking)
 abbrev pub neverStarted : ℕ → Slot
 neverStarted name = record { kind = 1; name = name; interval = 0; routine = 0; userData = 0 }
 
--- slot i becomes x and waits no more
+-- slot i becomes x and is in no chain
 abbrev pub stopped : State → ℕ → Slot → State
 stopped s i x =
     let slots = putAt (s .slots) i x in
-    withChain ByTicks (withChain ByDate s slots (without i (s .dated))) slots (without i (s .ticking))
+    withChain ByTicks (withChain ByDate (withChain Queue s slots (without i (s .queue))) slots (without i (s .dated))) slots (without i (s .ticking))
 
 -- the slot with another kind
 abbrev pub became : ℕ → Slot → Slot
 became kind x = record { kind = kind; name = x .name; interval = x .interval; routine = x .routine; userData = x .userData }
 
--- Cancel: a waiting timer becomes idle of its own kind. One that isn't waiting stays as it is. (Its follower takes over its wait since the other
+-- Cancel: a waiting or queued timer becomes idle of its own kind. Any other stays as it is. (Its follower takes over its wait since the other
 -- links keep their ticks left, and a wait is the difference of two: `Words`.)
 abbrev pub idled : Slot → Slot
 idled x = became (kindAt (x .kind) .whenStopped) x
 
--- It goes behind every timer due at the same tick, or date.
+-- It goes behind every timer due at the same tick, or date; in the queue to the back.
 abbrev pub inserted : Chain → State → ℕ → ℕ → State
 inserted k s i wait = withChain k s (s .slots) (place (λ w. w .wait) (record { slot = i; wait = wait }) (chainOf k s))
-
--- the interval of a start: its ticks, 0 for one by date
-abbrev pub intervalIn : Chain → ℕ → ℕ
-intervalIn ByTicks n = n
-intervalIn ByDate d = 0
 
 -- the slot of a timer that was started for so many ticks, or for a date
 abbrev pub waitingAs : Mode → Slot → ℕ → ℕ → ℕ → Slot
 waitingAs m x amount routine userData =
     record { kind = waitingKind m; name = x .name; interval = intervalIn (chainFor m) amount; routine = routine; userData = userData }
 
--- Fire after, fire when, fire every: cancelled if waiting, then waits.
+-- A start: cancelled if waiting or queued, then waits.
 abbrev pub started : Mode → State → ℕ → ℕ → ℕ → ℕ → State
 started m s i amount routine userData =
     inserted (chainFor m) (stopped s i (waitingAs m (slotAt (s .slots) i) amount routine userData)) i amount
 
--- A fired timer becomes idle of its kind; a periodic one keeps its kind.
+-- A fired timer becomes idle of its kind; a periodic one keeps its kind, a server timer is queued.
 abbrev pub fired : Slot → Slot
 fired x = became (kindAt (x .kind) .whenFired) x
 
@@ -104,17 +110,22 @@ abbrev pub firedAll : List Link → List Slot → List Slot
 firedAll [] slots = slots
 firedAll (w ∷ ws) slots = firedAll ws (putAt slots (w .slot) (fired (slotAt slots (w .slot))))
 
--- where it is of a kind that waits it goes back for its interval, behind equals
+-- where it is of a kind that waits it goes on: a periodic one goes back for its interval, behind equals, a server timer to the back of the queue
+abbrev pub waitAgain : Chain → ℕ → ℕ
+waitAgain ByTicks interval = interval
+waitAgain ByDate interval = interval
+waitAgain Queue interval = 0
+
 abbrev pub reinserted : Option Chain → State → ℕ → State
 reinserted none s i = s
-reinserted (some k) s i = inserted k s i (slotAt (s .slots) i .interval)
+reinserted (some k) s i = inserted k s i (waitAgain k (slotAt (s .slots) i .interval))
 
-abbrev pub goBack : List Link → State → State
-goBack [] s = s
-goBack (w ∷ ws) s = goBack ws (reinserted (kindAt (slotAt (s .slots) (w .slot) .kind) .chain) s (w .slot))
+abbrev pub goOn : List Link → State → State
+goOn [] s = s
+goOn (w ∷ ws) s = goOn ws (reinserted (kindAt (slotAt (s .slots) (w .slot) .kind) .chain) s (w .slot))
 
 -- the timers of chain k at or before a number, in chain order; and the state after they fired: all due timers come off first, then the
--- periodic ones go back in that order
+-- periodic ones go back in that order, and the server timers to the queue
 abbrev pub due : Chain → ℕ → State → List Link
 due k limit s = keep (λ w. leb (w .wait) limit) (chainOf k s)
 
@@ -122,7 +133,22 @@ abbrev pub off : Chain → ℕ → State → State
 off k limit s = withChain k s (firedAll (due k limit s) (s .slots)) (keep (λ w. ltb limit (w .wait)) (chainOf k s))
 
 abbrev pub fire : Chain → ℕ → State → State
-fire k limit s = goBack (due k limit s) (off k limit s)
+fire k limit s = goOn (due k limit s) (off k limit s)
+
+-- those that fire; server timers stay out of the list and its count
+abbrev pub withoutServer : List Slot → List Link → List Link
+withoutServer slots ws = keep (λ w. not (forServer (kindAt (slotAt slots (w .slot) .kind) .last))) ws
+
+-- Serve: the front of the queue, if there is one, becomes idle.
+abbrev pub front : State → List Link
+front s = take 1 (s .queue)
+
+abbrev pub handedOut : State → State
+handedOut s = withChain Queue s (firedAll (front s) (s .slots)) (drop 1 (s .queue))
+
+-- Initiate server: word 8 is 1.
+abbrev pub initiated : State → State
+initiated s = record { slots = s .slots; clock = s .clock; ticking = s .ticking; dated = s .dated; server = true; queue = s .queue }
 
 -- Tick: every interval timer comes one tick nearer.
 abbrev pub closer : Link → Link
@@ -143,7 +169,7 @@ clockStep c =
     (cond (ltb (c .second) lastSecond) (clockAt c (suc (c .second)) 0) c))
     c
 
--- ---- what each call does where it is accepted: the state it leaves, its answer, and the timers that fire, in order
+-- ---- what each call does where it is accepted: the state it leaves, its answer, and the timers that it lists, in order
 
 pub record Effect : Type 0 where
   pub state : State
@@ -165,13 +191,13 @@ ticked s =
     let near = nearer s in
     let clock = clockStep (s .clock) in
     let later = withClock (fire ByTicks 0 near) clock in
-    firing (fire ByDate (clock .second) later) (due ByTicks 0 near ++ due ByDate (clock .second) later)
+    firing (fire ByDate (clock .second) later) (withoutServer (s .slots) (due ByTicks 0 near ++ due ByDate (clock .second) later))
 
 -- Set clock: seconds as given, word 4 to 0, clock set. Dated timers at or before the new second fire now. Interval timers don't change. A clock
 -- set back moves no date.
 abbrev pub clockMoved : State → ℕ → Effect
 clockMoved s second =
-    let now = withClock s (clockAt (s .clock) second 0) in firing (fire ByDate second now) (due ByDate second now)
+    let now = withClock s (clockAt (s .clock) second 0) in firing (fire ByDate second now) (withoutServer (s .slots) (due ByDate second now))
 
 -- Get clock gives the date and, in ticks, word 4.
 abbrev pub numbers : WallTime → ℕ → List ℕ
@@ -207,7 +233,7 @@ directive (cancel id) = record {
   rules = λ w s. unsound w ∷ noSuchId s id ∷ [];
   does = λ s. leaves (stopped s (indexOf id) (idled (slotAt (s .slots) (indexOf id)))) 0;
 }
--- Cancelled if waiting, then the slot is free and all zero.
+-- Cancelled if waiting or queued, then the slot is free and all zero.
 directive (delete id) = record {
   rules = λ w s. unsound w ∷ noSuchId s id ∷ [];
   does = λ s. leaves (stopped s (indexOf id) free) 0;
@@ -216,10 +242,8 @@ directive (fireAfter id n r u) = record {
   rules = λ w s. unsound w ∷ startRules s id n r;
   does = λ s. leaves (started After s (indexOf id) n r u) 0;
 }
--- 11, 9, 20, 4
 directive (fireWhen id d r u) = record {
-  rules = λ w s. unsound w ∷ when NotDefined (not (s .clock .isSet)) ∷ when InvalidAddress (eqb r 0) ∷ when InvalidClock (notAhead s d)
-      ∷ noSuchId s id ∷ [];
+  rules = λ w s. unsound w ∷ dateRules s id d r;
   does = λ s. leaves (started When s (indexOf id) (secondsOf d) r u) 0;
 }
 -- Like fire after, but the timer fires every n ticks.
@@ -234,7 +258,7 @@ directive (reset id) = record {
       let x = slotAt (s .slots) (indexOf id) in
       leaves (started (lastMode (x .kind)) s (indexOf id) (x .interval) (x .routine) (x .userData)) 0;
 }
--- For kinds 4 and 6, which alone are in the interval chain; for any other kind 0.
+-- For kinds 4, 6 and 10, which alone are in the interval chain; for any other kind 0.
 directive (ticksLeft id) = record {
   rules = λ w s. unsound w ∷ noSuchId s id ∷ [];
   does = λ s. leaves s (waitAt (indexOf id) (s .ticking));
@@ -250,6 +274,24 @@ directive (setClock d list) = record {
 directive getClock = record {
   rules = λ w s. unsound w ∷ when NotDefined (not (s .clock .isSet)) ∷ [];
   does = λ s. clockRead s;
+}
+directive initiateServer = record {
+  rules = λ w s. unsound w ∷ alreadyInitiated s ∷ [];
+  does = λ s. leaves (initiated s) 0;
+}
+-- They take arguments and refuse as fire after and fire when do.
+directive (serverFireAfter id n r u) = record {
+  rules = λ w s. unsound w ∷ notInitiated s ∷ startRules s id n r;
+  does = λ s. leaves (started ServerAfter s (indexOf id) n r u) 0;
+}
+directive (serverFireWhen id d r u) = record {
+  rules = λ w s. unsound w ∷ notInitiated s ∷ dateRules s id d r;
+  does = λ s. leaves (started ServerWhen s (indexOf id) (secondsOf d) r u) 0;
+}
+-- Needs three words of list. Hands out the front's three words and answers 1, or 0 if the queue is empty.
+directive (serve list) = record {
+  rules = λ w s. unsound w ∷ when ListTooShort (ltb (length list) 3) ∷ notInitiated s ∷ [];
+  does = λ s. firing (handedOut s) (front s);
 }
 
 -- a call's rules, and what it does

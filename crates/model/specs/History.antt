@@ -1,16 +1,17 @@
--- Document 01, "The words of demand 3", and document 02, item 1: what a list of accepted calls means, with no table in sight.
+-- Document 01, "The words of demand 3", and document 02, items 1 and 5: what a list of accepted calls means, with no table in sight.
 -- A list of events is read backwards, the latest first. Assumes nothing: these are definitions.
 use Prim.Native.Nat.{ℕ, suc, _+_, _-_, _*_, _%_, min}
+use mathlib.Core.Path.{_≡_}
 use mathlib.Core.Bool.{Bool, true, false, cond, not, _&&_, _||_}
 use mathlib.Core.Option.{Option, none, some}
 use mathlib.Core.List.{List, [], _∷_, _++_, map}
+use lib.ListN.{drop}
 use lib.Dec.{leb, eqb}
 use Rattle.calendar.specs.Calendar.{secondsOf, lastSecond}
-use Rattle.model.specs.Lists.{keep, any, count}
-use Rattle.model.specs.Calls.{Call, layOut, create, ident, cancel, delete, fireAfter, fireWhen, fireEvery, reset, ticksLeft, tick, setClock, getClock}
-use Rattle.model.specs.Kinds.{Chain, Mode, After, When, Every, chainFor, isPeriodic, sameChain}
+use Rattle.model.specs.Lists.{keep, any, count, InOrder}
+use Rattle.model.specs.Calls.{Call, layOut, create, ident, cancel, delete, fireAfter, fireWhen, fireEvery, reset, ticksLeft, tick, setClock, getClock, initiateServer, serverFireAfter, serverFireWhen, serve}
+use Rattle.model.specs.Kinds.{Chain, ByTicks, ByDate, Mode, After, When, Every, ServerAfter, ServerWhen, chainFor, isPeriodic, isServer, sameChain, intervalIn}
 use Rattle.model.specs.State.{Fired}
-use Rattle.model.specs.Directives.{intervalIn}
 
 -- a start: the timer's id, how it is started, for how many ticks or for which date, and what it lists when it fires
 pub record Start : Type 0 where
@@ -31,6 +32,8 @@ pub data Event : Type 0 where
   deletes : ℕ → Event
   oneTick : Event
   clockSetTo : ℕ → Event
+  initiates : Event
+  servesFront : Event
   nothing : Event
 
 -- the start that an event is
@@ -40,6 +43,8 @@ startIn (changes id s) = s
 startIn (deletes id) = none
 startIn oneTick = none
 startIn (clockSetTo d) = none
+startIn initiates = none
+startIn servesFront = none
 startIn nothing = none
 
 -- A reset takes its ticks, routine and data from that timer's last start before it. A timer lasts from its create to its delete or a lay out.
@@ -54,9 +59,11 @@ lastStart id (changes i s ∷ before) = newer id s (lastStart id before)
 lastStart id (deletes i ∷ before) = cond (eqb i id) none (lastStart id before)
 lastStart id (oneTick ∷ before) = lastStart id before
 lastStart id (clockSetTo d ∷ before) = lastStart id before
+lastStart id (initiates ∷ before) = lastStart id before
+lastStart id (servesFront ∷ before) = lastStart id before
 lastStart id (nothing ∷ before) = lastStart id before
 
--- A start is an accepted fire after, fire when, fire every or reset.
+-- A start is an accepted fire after, fire when, fire every, server fire after, server fire when or reset.
 abbrev pub eventOf : List Event → Call → Event
 eventOf before (layOut n t) = laidOutFor t
 eventOf before (create name) = nothing
@@ -71,6 +78,10 @@ eventOf before (ticksLeft id) = nothing
 eventOf before (tick list) = oneTick
 eventOf before (setClock w list) = clockSetTo (secondsOf w)
 eventOf before getClock = nothing
+eventOf before initiateServer = initiates
+eventOf before (serverFireAfter id n r u) = changes id (some (startOf id ServerAfter n r u))
+eventOf before (serverFireWhen id w r u) = changes id (some (startOf id ServerWhen (secondsOf w) r u))
+eventOf before (serve list) = servesFront
 
 -- the events of accepted calls, made after the events `before`
 abbrev pub eventsOn : List Event → List Call → List Event
@@ -93,6 +104,10 @@ lastsAfter (ticksLeft i) answer id before = before
 lastsAfter (tick list) answer id before = before
 lastsAfter (setClock w list) answer id before = before
 lastsAfter getClock answer id before = before
+lastsAfter initiateServer answer id before = before
+lastsAfter (serverFireAfter i n r u) answer id before = before
+lastsAfter (serverFireWhen i w r u) answer id before = before
+lastsAfter (serve list) answer id before = before
 
 -- ---- the clock
 
@@ -103,6 +118,8 @@ isTick (changes i s) = false
 isTick (deletes i) = false
 isTick oneTick = true
 isTick (clockSetTo d) = false
+isTick initiates = false
+isTick servesFront = false
 isTick nothing = false
 
 abbrev pub ticks : List Event → ℕ
@@ -116,6 +133,8 @@ perSecond (changes i s ∷ before) = perSecond before
 perSecond (deletes i ∷ before) = perSecond before
 perSecond (oneTick ∷ before) = perSecond before
 perSecond (clockSetTo d ∷ before) = perSecond before
+perSecond (initiates ∷ before) = perSecond before
+perSecond (servesFront ∷ before) = perSecond before
 perSecond (nothing ∷ before) = perSecond before
 
 -- The clock is unset from a lay out to the next set clock. After that it stands, counted in ticks, at the seconds given in the latest
@@ -127,6 +146,8 @@ clockAfter since (changes i s ∷ before) = clockAfter since before
 clockAfter since (deletes i ∷ before) = clockAfter since before
 clockAfter since (oneTick ∷ before) = clockAfter (suc since) before
 clockAfter since (clockSetTo d ∷ before) = some (min (d * perSecond before + since) (suc lastSecond * perSecond before - 1))
+clockAfter since (initiates ∷ before) = clockAfter since before
+clockAfter since (servesFront ∷ before) = clockAfter since before
 clockAfter since (nothing ∷ before) = clockAfter since before
 
 -- It is at or past a date when it is at least the date's seconds times T.
@@ -144,6 +165,8 @@ movesClock (changes i s) = false
 movesClock (deletes i) = false
 movesClock oneTick = true
 movesClock (clockSetTo d) = true
+movesClock initiates = false
+movesClock servesFront = false
 movesClock nothing = false
 
 -- ---- starts
@@ -165,6 +188,8 @@ ends id (changes i s) = eqb i id
 ends id (deletes i) = eqb i id
 ends id oneTick = false
 ends id (clockSetTo d) = false
+ends id initiates = false
+ends id servesFront = false
 ends id nothing = false
 
 abbrev pub wasEnded : Placed → Bool
@@ -177,6 +202,8 @@ abbrev pub dueIn : Mode → ℕ → Event → List Event → List Event → Bool
 dueIn After n e before after = isTick e && eqb (suc (ticks after)) n
 dueIn When d e before after = movesClock e && past d (e ∷ after ++ before)
 dueIn Every n e before after = isTick e && eqb (suc (ticks after) % n) 0
+dueIn ServerAfter n e before after = isTick e && eqb (suc (ticks after)) n
+dueIn ServerWhen d e before after = movesClock e && past d (e ∷ after ++ before)
 
 abbrev pub isDue : Event → Placed → Bool
 isDue e g = dueIn (g .begun .mode) (g .begun .amount) e (g .before) (g .after)
@@ -193,14 +220,20 @@ wasDue g = wasDueIn (g .begun) (g .before) (g .after)
 abbrev pub waits : Placed → Bool
 waits g = not (wasEnded g) && (isPeriodic (g .begun .mode) || not (wasDue g))
 
--- it fires in the event e, next after all that follow it: it waits, and is due in e
+-- it comes due in the event e, next after all that follow it: it waits, and is due in e; then a server timer is queued, any other fires
+abbrev pub comesDue : Event → Placed → Bool
+comesDue e g = waits g && isDue e g
+
 abbrev pub fires : Event → Placed → Bool
-fires e g = waits g && isDue e g
+fires e g = comesDue e g && not (isServer (g .begun .mode))
+
+abbrev pub isQueued : Event → Placed → Bool
+isQueued e g = comesDue e g && isServer (g .begun .mode)
 
 -- Each going back of a periodic timer that fires counts as a start only for the order among equals: those that go back in e follow the others,
 -- in the order that they had.
 abbrev pub goesBack : Event → Placed → Bool
-goesBack e g = isPeriodic (g .begun .mode) && fires e g
+goesBack e g = isPeriodic (g .begun .mode) && comesDue e g
 
 abbrev pub inTurn : Event → List Placed → List Placed
 inTurn e l = keep (λ g. not (goesBack e g)) l ++ keep (goesBack e) l
@@ -225,13 +258,18 @@ abbrev pub remaining : Mode → ℕ → ℕ → ℕ
 remaining After n ticksAfter = n - ticksAfter
 remaining When d ticksAfter = d
 remaining Every n ticksAfter = n - ticksAfter % n
+remaining ServerAfter n ticksAfter = n - ticksAfter
+remaining ServerWhen d ticksAfter = d
 
 abbrev pub ticksLeftOrDate : Placed → ℕ
 ticksLeftOrDate g = remaining (g .begun .mode) (g .begun .amount) (ticks (g .after))
 
 -- each as id, then routine and data of its start
+abbrev pub entryOf : Start → Fired
+entryOf s = record { id = s .id; routine = s .routine; userData = s .userData }
+
 abbrev pub entry : Placed → Fired
-entry g = record { id = g .begun .id; routine = g .begun .routine; userData = g .begun .userData }
+entry g = entryOf (g .begun)
 
 -- what a waiting start shows: its entry, how it was started, its interval, and its ticks left or its date
 pub record Waiting : Type 0 where
@@ -247,3 +285,66 @@ waiting g = record {
   interval = intervalIn (chainFor (g .begun .mode)) (g .begun .amount);
   wait = ticksLeftOrDate g;
 }
+
+-- ---- the queue
+
+-- the server was initiated since the last lay out
+abbrev pub isInitiated : List Event → Bool
+isInitiated [] = false
+isInitiated (laidOutFor t ∷ before) = false
+isInitiated (changes i s ∷ before) = isInitiated before
+isInitiated (deletes i ∷ before) = isInitiated before
+isInitiated (oneTick ∷ before) = isInitiated before
+isInitiated (clockSetTo d ∷ before) = isInitiated before
+isInitiated (initiates ∷ before) = true
+isInitiated (servesFront ∷ before) = isInitiated before
+isInitiated (nothing ∷ before) = isInitiated before
+
+-- how many a serve hands out, where there are so many
+abbrev pub servesIn : Event → ℕ
+servesIn (laidOutFor t) = 0
+servesIn (changes i s) = 0
+servesIn (deletes i) = 0
+servesIn oneTick = 0
+servesIn (clockSetTo d) = 0
+servesIn initiates = 0
+servesIn servesFront = 1
+servesIn nothing = 0
+
+-- the starts that are queued in the event e, after the events h: interval timers first, then dated ones, each in firing order
+pub record Queues (h : List Event) (e : Event) (new : List Start) : Type 0 where
+  pub ticking : List Placed
+  pub dated : List Placed
+  pub ticking-order : InOrder ticksLeftOrDate (keep (inChain ByTicks) (keep (isQueued e) (starts h))) ticking
+  pub dated-order : InOrder ticksLeftOrDate (keep (inChain ByDate) (keep (isQueued e) (starts h))) dated
+  pub is : new ≡ map (λ g. g .begun) (ticking ++ dated)
+
+-- what is left of starts in the queue after the event e: a serve hands out the front; cancel, reset, start and delete take the timer off, a lay
+-- out all
+abbrev pub leftInQueue : Event → List Start → List Start
+leftInQueue e q = keep (λ s. not (ends (s .id) e)) (drop (servesIn e) q)
+
+-- q is the queue after the events, the front first: those that are queued in an event go to the back
+abbrev pub IsQueue : List Event → List Start → Type 0
+IsQueue [] q = q ≡ []
+IsQueue (e ∷ h) q = (p : List Start) × (new : List Start) × IsQueue h p × Queues h e new × (q ≡ leftInQueue e p ++ new)
+
+-- what a queued start shows
+abbrev pub queuedAs : Start → Waiting
+queuedAs s = record { shows = entryOf s; mode = some (s .mode); interval = intervalIn (chainFor (s .mode)) (s .amount); wait = 0 }
+
+-- ---- the place in the queue
+
+-- how many serves there were
+abbrev pub serves : List Event → ℕ
+serves [] = 0
+serves (e ∷ after) = serves after + servesIn e
+
+-- what is left of the starts ahead of one in the queue, after more events, and how many of them were taken off
+abbrev pub aheadAfter : List Event → List Start → List Start
+aheadAfter [] ahead = ahead
+aheadAfter (e ∷ after) ahead = leftInQueue e (aheadAfter after ahead)
+
+abbrev pub takenOff : List Event → List Start → ℕ
+takenOff [] ahead = 0
+takenOff (e ∷ after) ahead = takenOff after ahead + count (λ s. ends (s .id) e) (drop (servesIn e) (aheadAfter after ahead))

@@ -1,4 +1,4 @@
--- The table without its links: slots, clock, and the two chains as lists in firing order, with ticks left or dates.
+-- The table without its links: slots, clock, and the chains as lists in firing order, with ticks left or dates; the queue, where they are 0.
 -- Assumes nothing: these are definitions.
 use Prim.Native.Nat.{ℕ, zero, suc, _+_, _-_}
 use mathlib.Core.Bool.{Bool, cond, not}
@@ -7,7 +7,7 @@ use lib.ListN.{length, getD, set}
 use lib.Dec.{leb, ltb, eqb}
 use Rattle.calendar.specs.Calendar.{allOf}
 use Rattle.model.specs.Lists.{keep}
-use Rattle.model.specs.Kinds.{Chain, ByTicks, ByDate}
+use Rattle.model.specs.Kinds.{Chain, ByTicks, ByDate, Queue}
 
 -- the words of a slot but for its wait and links
 pub record Slot : Type 0 where
@@ -29,24 +29,33 @@ pub record Clock : Type 0 where
   pub second : ℕ
   pub ticksInto : ℕ
 
+-- `server` says whether the timer server was initiated
 pub record State : Type 0 where
   pub slots : List Slot
   pub clock : Clock
   pub ticking : List Link
   pub dated : List Link
+  pub server : Bool
+  pub queue : List Link
 
 -- a chain of the state
 abbrev pub chainOf : Chain → State → List Link
 chainOf ByTicks s = s .ticking
 chainOf ByDate s = s .dated
+chainOf Queue s = s .queue
 
 -- the state with other slots and another chain; with another clock
 abbrev pub withChain : Chain → State → List Slot → List Link → State
-withChain ByTicks s slots links = record { slots = slots; clock = s .clock; ticking = links; dated = s .dated }
-withChain ByDate s slots links = record { slots = slots; clock = s .clock; ticking = s .ticking; dated = links }
+withChain ByTicks s slots links =
+    record { slots = slots; clock = s .clock; ticking = links; dated = s .dated; server = s .server; queue = s .queue }
+withChain ByDate s slots links =
+    record { slots = slots; clock = s .clock; ticking = s .ticking; dated = links; server = s .server; queue = s .queue }
+withChain Queue s slots links =
+    record { slots = slots; clock = s .clock; ticking = s .ticking; dated = s .dated; server = s .server; queue = links }
 
 abbrev pub withClock : State → Clock → State
-withClock s clock = record { slots = s .slots; clock = clock; ticking = s .ticking; dated = s .dated }
+withClock s clock =
+    record { slots = s .slots; clock = clock; ticking = s .ticking; dated = s .dated; server = s .server; queue = s .queue }
 
 -- Kind 0: every other word zero.
 abbrev pub free : Slot

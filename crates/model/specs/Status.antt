@@ -3,7 +3,7 @@ use Prim.Native.Nat.{ℕ}
 use mathlib.Core.Bool.{Bool, cond}
 use mathlib.Core.List.{List, [], _∷_}
 pub use Rattle.model.specs.declared.Status.{Status}
-pub use Rattle.model.specs.declared.Status.the-variants.{InvalidName, InvalidId, TooMany, InvalidSize, InvalidAddress, InvalidNumber, NotDefined, Unsatisfied, InvalidClock, NotSound, ListTooShort}
+pub use Rattle.model.specs.declared.Status.the-variants.{InvalidName, InvalidId, TooMany, InvalidSize, InvalidAddress, InvalidNumber, NotDefined, Unsatisfied, IncorrectState, InvalidClock, NotSound, ListTooShort}
 
 -- the number of each status
 abbrev pub numberOf : Status → ℕ
@@ -15,6 +15,7 @@ numberOf InvalidAddress = 9
 numberOf InvalidNumber = 10
 numberOf NotDefined = 11
 numberOf Unsatisfied = 13
+numberOf IncorrectState = 14
 numberOf InvalidClock = 20
 numberOf NotSound = 100
 numberOf ListTooShort = 101

@@ -2,8 +2,9 @@
 --
 --   word 0 slot count N          word 5 first slot of the interval chain     slot i, from 1, is the eight words from 2 + 8i on:
 --   word 1 ticks in a second T   word 6 first slot of the dated chain        0 kind      1 name     2 interval   3 wait
---   word 2 clock set, 0 or 1     words 7 to 9 zero                           4 routine   5 data     6 next       7 previous
---   word 3 seconds               word 4 ticks into the second                link 0 means none; words past 10 + 8N are not the table's
+--   word 2 clock set, 0 or 1     word 7 zero                                 4 routine   5 data     6 next       7 previous
+--   word 3 seconds               word 8 server initiated, 0 or 1             link 0 means none; words past 10 + 8N are not the table's
+--   word 4 ticks into the second word 9 first slot of the queue
 --
 -- Assumes nothing: these are definitions.
 use Prim.Native.Nat.{ℕ, zero, suc, _+_, _-_, _*_}
@@ -11,7 +12,7 @@ use mathlib.Core.Bool.{cond}
 use mathlib.Core.List.{List, [], _∷_}
 use lib.ListN.{length, getD, drop}
 use lib.Dec.{eqb}
-use Rattle.model.specs.Kinds.{Chain, ByTicks, ByDate}
+use Rattle.model.specs.Kinds.{Chain, ByTicks, ByDate, Queue}
 use Rattle.model.specs.State.{Slot, Link, Clock, State}
 
 -- ---- writing
@@ -21,10 +22,11 @@ abbrev pub first : List Link → ℕ
 first [] = 0
 first (w ∷ ws) = w .slot
 
--- The wait of a kind 4 or 6 slot is the ticks after the slot before it, that of a kind 5 slot its date.
+-- The wait of a kind 4, 6 or 10 slot is the ticks after the slot before it, that of a kind 5 or 11 slot its date; in the queue it is 0.
 abbrev pub difference : Chain → ℕ → ℕ → ℕ
 difference ByTicks before wait = wait - before
 difference ByDate before wait = wait
+difference Queue before wait = wait
 
 -- the words next, previous and wait of the slot i, from the chain that it is in; 0 where it is in none
 abbrev pub nextIn : List Link → ℕ → ℕ
@@ -41,7 +43,7 @@ waitIn k b (w ∷ ws) i = cond (eqb (w .slot) i) (difference k b (w .wait)) (wai
 
 -- a number that each chain gives to a slot, added: a slot is in one of the chains at most, so that all but one are 0
 abbrev pub sumOf : (Chain → List Link → ℕ) → State → ℕ
-sumOf f s = f ByTicks (s .ticking) + f ByDate (s .dated)
+sumOf f s = f ByTicks (s .ticking) + f ByDate (s .dated) + f Queue (s .queue)
 
 abbrev pub slotWords : State → ℕ → Slot → List ℕ → List ℕ
 slotWords s i x rest =
@@ -56,7 +58,7 @@ allSlots s i (x ∷ xs) rest = slotWords s i x (allSlots s (suc i) xs rest)
 abbrev pub write : State → List ℕ → List ℕ
 write s rest =
     length (s .slots) ∷ s .clock .perSecond ∷ cond (s .clock .isSet) 1 0 ∷ s .clock .second ∷ s .clock .ticksInto
-    ∷ first (s .ticking) ∷ first (s .dated) ∷ 0 ∷ 0 ∷ 0 ∷ allSlots s 1 (s .slots) rest
+    ∷ first (s .ticking) ∷ first (s .dated) ∷ 0 ∷ cond (s .server) 1 0 ∷ first (s .queue) ∷ allSlots s 1 (s .slots) rest
 
 -- the words of a state at the front of a slice. Words past 10 + 8N are never changed.
 abbrev pub writtenOver : State → List ℕ → List ℕ
@@ -93,6 +95,12 @@ firstTicking t = getD t 5 0
 abbrev pub firstDated : List ℕ → ℕ
 firstDated t = getD t 6 0
 
+abbrev pub serverInitiated : List ℕ → ℕ
+serverInitiated t = getD t 8 0
+
+abbrev pub firstQueued : List ℕ → ℕ
+firstQueued t = getD t 9 0
+
 -- the words of slot i, by their names
 abbrev pub kindOf : List ℕ → ℕ → ℕ
 kindOf t i = field t i 0
@@ -122,6 +130,7 @@ previousOf t i = field t i 7
 abbrev pub headWord : Chain → ℕ
 headWord ByTicks = 5
 headWord ByDate = 6
+headWord Queue = 9
 
 -- the slots along the links from slot i on, at most `fuel` of them
 abbrev pub along : (ℕ → ℕ) → ℕ → ℕ → List ℕ
@@ -133,6 +142,7 @@ along next (suc fuel) (suc i) = suc i ∷ along next fuel (next (suc i))
 abbrev pub accumulated : Chain → ℕ → ℕ → ℕ
 accumulated ByTicks before wait = before + wait
 accumulated ByDate before wait = wait
+accumulated Queue before wait = wait
 
 -- the links of chain k from slot i on, at most `fuel` of them, behind a slot with that wait
 abbrev pub linksFrom : Chain → List ℕ → ℕ → ℕ → ℕ → List Link
@@ -141,7 +151,7 @@ linksFrom k t (suc fuel) before zero = []
 linksFrom k t (suc fuel) before (suc i) =
     let wait = accumulated k before (waitOf t (suc i)) in record { slot = suc i; wait = wait } ∷ linksFrom k t fuel wait (nextOf t (suc i))
 
--- The chain, followed by next from word 5 or 6.
+-- The chain, followed by next from word 5, 6 or 9.
 abbrev pub links : Chain → List ℕ → List Link
 links k t = linksFrom k t (slotCount t) 0 (word t (headWord k))
 
@@ -158,4 +168,11 @@ slotsFrom t i (suc n) = slotFrom t i ∷ slotsFrom t (suc i) n
 abbrev pub read : List ℕ → State
 read t =
     let clock : Clock = record { perSecond = ticksPerSecond t; isSet = eqb (clockSet t) 1; second = seconds t; ticksInto = ticksInto t } in
-    record { slots = slotsFrom t 1 (slotCount t); clock = clock; ticking = links ByTicks t; dated = links ByDate t }
+    record {
+      slots = slotsFrom t 1 (slotCount t);
+      clock = clock;
+      ticking = links ByTicks t;
+      dated = links ByDate t;
+      server = eqb (serverInitiated t) 1;
+      queue = links Queue t;
+    }

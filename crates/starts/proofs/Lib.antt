@@ -1,4 +1,3 @@
--- Starts has what comes of a start for ticks; Dates what fire when asks of a date; Stored what reset finds in the slot.
-pub mod Starts
-pub mod Dates
+-- Opened has the outcome of a call that starts a timer behind its opening; Stored what reset finds in the slot.
+pub mod Opened
 pub mod Stored

@@ -5,10 +5,10 @@ use mathlib.Core.Logic.{_≢_}
 use Prim.Native.Nat.{ℕ, _≤_, _<_}
 use mathlib.Core.Bool.{Bool, true, cond}
 use mathlib.Core.List.{List}
-use lib.Dec.{ltb, eqb}
-use borrow.Author.Tests.{ne-eqb, lt-ltb, le-ltb}
+use lib.Dec.{leb, ltb, eqb}
+use borrow.Author.Tests.{ne-eqb, lt-ltb, le-ltb, le-leb, lt-leb}
 use Rattle.model.specs.declared.Mode.{Mode}
-use Rattle.model.specs.declared.Mode.the-variants.{After, Every}
+use Rattle.model.specs.declared.Mode.the-variants.{After, Every, ServerAfter}
 use Rattle.model.specs.Kinds.{byTicks, lastByTicks, modeOrAfter, lastMode}
 use Rattle.model.specs.Calls.{reset}
 use Rattle.model.specs.State.{Slot, slotAt, indexOf}
@@ -22,20 +22,31 @@ use Rattle.opening.specs.Ids.{Named}
 -- ---- how it was started
 
 -- the last of the kinds that were started by interval
-pub timed-last : (n : ℕ) → n ≢ 2 → n ≢ 4 → n ≢ 6 → eqb n 7 ≡ lastByTicks n
-timed-last n a b c = sym (timed-is n ∙ rw (ne-eqb n 2 a, ne-eqb n 4 b, ne-eqb n 6 c))
+pub timed-last : (n : ℕ) → n ≢ 2 → n ≢ 4 → n ≢ 6 → n ≢ 7 → n ≢ 8 → n ≢ 10 → eqb n 12 ≡ lastByTicks n
+timed-last n a b c d e f =
+    sym (timed-is n ∙ rw (ne-eqb n 2 a, ne-eqb n 4 b, ne-eqb n 6 c, ne-eqb n 7 d, ne-eqb n 8 e, ne-eqb n 10 f))
 
 module _ (n : ℕ) (timed : lastByTicks n ≡ true) where
-  mode-by-number : cond (ltb n 6) After Every ≡ lastMode n
+  abbrev byNumber : ℕ → Mode
+  byNumber m = cond (ltb m 6) After (cond (leb m 7) Every ServerAfter)
+
+  mode-by-number : byNumber n ≡ lastMode n
   mode-by-number =
-      ap (λ (b : Bool). cond b (cond (ltb n 6) After Every) (lastMode n)) (sym timed)
-      ∙ on-numbers (λ m x. cond (byTicks (x .last)) (cond (ltb m 6) After Every) (modeOrAfter (x .last))) (λ _ x. modeOrAfter (x .last)) refl (λ m _. refl) n
+      ap (λ (b : Bool). cond b (byNumber n) (lastMode n)) (sym timed)
+      ∙ on-numbers (λ m x. cond (byTicks (x .last)) (byNumber m) (modeOrAfter (x .last))) (λ _ x. modeOrAfter (x .last)) refl (λ m _. refl) n
 
   pub as-after : n < 6 → After ≡ lastMode n
-  as-after p = ap (λ (b : Bool). cond b After Every) (sym (lt-ltb n 6 p)) ∙ mode-by-number
+  as-after p = ap (λ (b : Bool). cond b After (cond (leb n 7) Every ServerAfter)) (sym (lt-ltb n 6 p)) ∙ mode-by-number
 
-  pub as-every : 6 ≤ n → Every ≡ lastMode n
-  as-every p = ap (λ (b : Bool). cond b After Every) (sym (le-ltb n 6 p)) ∙ mode-by-number
+  module _ (p : 6 ≤ n) where
+    past-after : cond (leb n 7) Every ServerAfter ≡ lastMode n
+    past-after = ap (λ (b : Bool). cond b After (cond (leb n 7) Every ServerAfter)) (sym (le-ltb n 6 p)) ∙ mode-by-number
+
+    pub as-every : n ≤ 7 → Every ≡ lastMode n
+    as-every q = ap (λ (b : Bool). cond b Every ServerAfter) (sym (le-leb n 7 q)) ∙ past-after
+
+    pub as-server : 7 < n → ServerAfter ≡ lastMode n
+    as-server q = ap (λ (b : Bool). cond b Every ServerAfter) (sym (lt-leb n 7 q)) ∙ past-after
 
 -- ---- the slot
 

@@ -1,4 +1,5 @@
-// The calls that start timers: for some ticks, for a date, for every so many ticks, and again. Their contracts are as those of crate `timer`.
+// The calls that start timers: for some ticks, for a date, for every so many ticks, and again; what a start does behind its opening is in crate
+// `starting`. Their contracts are as those of crate `timer`.
 ghost use mathlib.Core.Path.{_≡_};
 ghost use mathlib.Core.Bool.{true};
 ghost use mathlib.Core.List.{[]};
@@ -6,19 +7,18 @@ ghost use Rattle.model.specs.Kinds.{lastByTicks, lastMode};
 ghost use Rattle.model.specs.Calls as call;
 ghost use Rattle.model.specs.Outcome.{outcomeOf, outcome};
 ghost use Rattle.answers.specs.Answers.{statusOf, answerOf};
-ghost use Rattle.starts.specs.Starts.{startOutcome};
 use answers::Answer;
-use calendar::Instant;
 use calendar::WallTime;
 use links::start;
 use model::Mode;
 use model::Status;
 use opening::open_timer;
-use slots::named;
 use soundness::is_sound;
+use starting::start_for_date;
+use starting::start_for_ticks;
 use table::*;
 
-// The kind is of a timer last started by interval, idle or waiting.
+// The kind is of a timer last started by interval, idle, waiting or queued.
 fn was_by_ticks(kind: u32) -> bool
     ensures { λ r. ⌜ r ≡ lastByTicks kind ⌝ }
 {
@@ -31,7 +31,16 @@ fn was_by_ticks(kind: u32) -> bool
     if kind == WAITING_EVERY {
         return true;
     }
-    kind == IDLE_EVERY
+    if kind == IDLE_EVERY {
+        return true;
+    }
+    if kind == SERVER_IDLE_TICKS {
+        return true;
+    }
+    if kind == SERVER_WAITING_TICKS {
+        return true;
+    }
+    kind == QUEUED_TICKS
 }
 
 // How a timer of the kind was last started.
@@ -42,49 +51,30 @@ fn last_mode(kind: u32) -> Mode
     if kind < WAITING_EVERY {
         return Mode::After;
     }
-    Mode::Every
-}
-
-// A timer waits for so many ticks from now, once or again and again by the mode, behind every timer due at the same tick.
-fn start_ticks(
-    table: &mut [u32],
-    mode: Mode,
-    id: u32,
-    ticks: u32,
-    routine: u32,
-    user_data: u32,
-) -> Answer
-    ensures { λ r. ⌜ outcomeOf (statusOf r) (answerOf r) (now (table .exit)) [] ≡ startOutcome mode (now (table .entry)) id ticks routine user_data ⌝ }
-{
-    if !is_sound(table) {
-        return Answer::Refused(Status::NotSound);
+    if kind <= IDLE_EVERY {
+        return Mode::Every;
     }
-    if ticks == 0 {
-        return Answer::Refused(Status::InvalidNumber);
-    }
-    if routine == 0 {
-        return Answer::Refused(Status::InvalidAddress);
-    }
-    let i = named(table, id);
-    if i == 0 {
-        return Answer::Refused(Status::InvalidId);
-    }
-    start(table, mode, i, ticks, routine, user_data);
-    Answer::Done(0)
+    Mode::ServerAfter
 }
 
 // A timer fires so many ticks from now.
 pub fn fire_after(table: &mut [u32], id: u32, ticks: u32, routine: u32, user_data: u32) -> Answer
     ensures { λ r. ⌜ outcomeOf (statusOf r) (answerOf r) (now (table .exit)) [] ≡ outcome (now (table .entry)) (call.fireAfter id ticks routine user_data) ⌝ }
 {
-    start_ticks(table, Mode::After, id, ticks, routine, user_data)
+    if !is_sound(table) {
+        return Answer::Refused(Status::NotSound);
+    }
+    start_for_ticks(table, Mode::After, id, ticks, routine, user_data)
 }
 
 // A timer fires every so many ticks from now on, until it is cancelled, started anew or deleted.
 pub fn fire_every(table: &mut [u32], id: u32, ticks: u32, routine: u32, user_data: u32) -> Answer
     ensures { λ r. ⌜ outcomeOf (statusOf r) (answerOf r) (now (table .exit)) [] ≡ outcome (now (table .entry)) (call.fireEvery id ticks routine user_data) ⌝ }
 {
-    start_ticks(table, Mode::Every, id, ticks, routine, user_data)
+    if !is_sound(table) {
+        return Answer::Refused(Status::NotSound);
+    }
+    start_for_ticks(table, Mode::Every, id, ticks, routine, user_data)
 }
 
 // A timer waits for a date, behind every timer due at the same date.
@@ -94,24 +84,7 @@ pub fn fire_when(table: &mut [u32], id: u32, when: WallTime, routine: u32, user_
     if !is_sound(table) {
         return Answer::Refused(Status::NotSound);
     }
-    if table[CLOCK_SET] != 1 {
-        return Answer::Refused(Status::NotDefined);
-    }
-    if routine == 0 {
-        return Answer::Refused(Status::InvalidAddress);
-    }
-    let Instant::Second(date) = calendar::to_seconds(when) else {
-        return Answer::Refused(Status::InvalidClock);
-    };
-    if date <= table[SECONDS] {
-        return Answer::Refused(Status::InvalidClock);
-    }
-    let i = named(table, id);
-    if i == 0 {
-        return Answer::Refused(Status::InvalidId);
-    }
-    start(table, Mode::When, i, date, routine, user_data);
-    Answer::Done(0)
+    start_for_date(table, Mode::When, id, when, routine, user_data)
 }
 
 // A timer last started by interval starts again as it was, with the interval, routine and data that it has stored.

@@ -21,6 +21,8 @@ const NOT_DEFINED: u32 = 11;
 
 const UNSATISFIED: u32 = 13;
 
+const INCORRECT_STATE: u32 = 14;
+
 const INVALID_CLOCK: u32 = 20;
 
 const NOT_SOUND: u32 = 100;
@@ -40,6 +42,7 @@ pub fn number_of(status: Status) -> u32
         Status::InvalidNumber => INVALID_NUMBER,
         Status::NotDefined => NOT_DEFINED,
         Status::Unsatisfied => UNSATISFIED,
+        Status::IncorrectState => INCORRECT_STATE,
         Status::InvalidClock => INVALID_CLOCK,
         Status::NotSound => NOT_SOUND,
         Status::ListTooShort => LIST_TOO_SHORT,

@@ -1,16 +1,20 @@
 // The words of a table: where they stand, and how they are read and written.
 //
-// The table, in 32-bit words (document 01). A link is a slot's index, and 0 means none.
+// The table, in 32-bit words (document 01, and document 02, items 1 and 5). A link is a slot's index, and 0 means none.
 //
 //   0 slot count N        5 first slot of the interval chain    slot i, from 1 to N, is the eight words from 2 + 8i on:
 //   1 ticks in a second   6 first slot of the dated chain       0 kind     1 name   2 interval   3 wait
-//   2 clock set, 0 or 1   7 to 9 zero                           4 routine  5 data   6 next       7 previous
-//   3 seconds             4 ticks into the second
+//   2 clock set, 0 or 1   7 zero                                4 routine  5 data   6 next       7 previous
+//   3 seconds             8 server initiated, 0 or 1
+//   4 ticks into it       9 first slot of the queue
 //
-// The kinds. An idle timer is told apart by how it was last started; a periodic one waits again when it fired.
+// The kinds. An idle timer is told apart by how it was last started; a periodic one waits again when it fired, a server timer is queued then.
 //
 //   0 free            2 idle, by interval   4 waiting for ticks    6 waiting for ticks, periodic
 //   1 never started   3 idle, by date       5 waiting for a date   7 idle, periodic
+//
+//   server timers:    8 idle, by interval  10 waiting for ticks   12 queued, by interval
+//                     9 idle, by date      11 waiting for a date  13 queued, by date
 ghost use mathlib.Core.Path.{_≡_};
 ghost use Prim.Native.Nat.{_+_, _*_, _<_, _≤_};
 ghost use lib.ListN.{length, set};
@@ -33,12 +37,12 @@ pub const FIRST_TICKING: usize = 5;
 
 pub const FIRST_DATED: usize = 6;
 
-// These are zero.
+// This is zero.
 pub const SPARE_7: usize = 7;
 
-pub const SPARE_8: usize = 8;
+pub const SERVER: usize = 8;
 
-pub const SPARE_9: usize = 9;
+pub const FIRST_QUEUED: usize = 9;
 
 // The words of a slot.
 pub const KIND: usize = 0;
@@ -86,6 +90,18 @@ pub const WAITING_EVERY: u32 = 6;
 
 pub const IDLE_EVERY: u32 = 7;
 
+pub const SERVER_IDLE_TICKS: u32 = 8;
+
+pub const SERVER_IDLE_DATE: u32 = 9;
+
+pub const SERVER_WAITING_TICKS: u32 = 10;
+
+pub const SERVER_WAITING_DATE: u32 = 11;
+
+pub const QUEUED_TICKS: u32 = 12;
+
+pub const QUEUED_DATE: u32 = 13;
+
 // A timer of this kind waits in the interval chain.
 pub fn waits_for_ticks(kind: u32) -> bool
     ensures { λ r. ⌜ r ≡ waitsIn ByTicks kind ⌝ }
@@ -93,7 +109,10 @@ pub fn waits_for_ticks(kind: u32) -> bool
     if kind == WAITING_TICKS {
         return true;
     }
-    kind == WAITING_EVERY
+    if kind == WAITING_EVERY {
+        return true;
+    }
+    kind == SERVER_WAITING_TICKS
 }
 
 // Word f of slot i.

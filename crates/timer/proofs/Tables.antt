@@ -6,10 +6,10 @@ use mathlib.Core.Bool.{true}
 use mathlib.Core.List.{List, [], _∷_, _++_}
 use lib.ListN.{length, set, drop, replicate, length-replicate}
 use lib.Dec.{eqb}
-use Rattle.model.specs.declared.Chain.the-variants.{ByTicks, ByDate}
-use Rattle.model.specs.State.{Slot, Link, State, withChain, free, slotAt, without}
+use Rattle.model.specs.declared.Chain.the-variants.{ByTicks}
+use Rattle.model.specs.State.{Slot, State, withChain, free, slotAt}
 use Rattle.model.specs.Directives.{laidOut, lowestFree, stored, neverStarted, stopped, idled}
-use Rattle.model.specs.Words.{slotWords, allSlots, write, writtenOver, read}
+use Rattle.model.specs.Words.{allSlots, write, writtenOver, read}
 use Rattle.model.specs.Sound.{sound}
 use Rattle.model.proofs.Slots.{put-put}
 use Rattle.model.proofs.Searches.{found}
@@ -42,20 +42,15 @@ module _ {t : List ℕ} {i : ℕ} (at : InTable t i) {u : List ℕ} (e : u ≡ w
       let s = stoppedAt t i in
       h ∙ ap₂ (λ (r : State) (w : List ℕ). writtenOver (stored r i free) w) (next-read (stop-next t i at u e)) e
       ∙ over-over s (stored s i free) t (length-stored s i free)
-      ∙ ap (λ (l : List Slot). writtenOver (withChain ByTicks (withChain ByDate (read t) l (without i (read t .dated))) l (without i (read t .ticking))) t)
-      (put-put (read t .slots) i (idled (slotAt (read t .slots) i)) free)
+      ∙ ap (λ (l : List Slot). writtenOver (withChain ByTicks s l (s .ticking)) t) (put-put (read t .slots) i (idled (slotAt (read t .slots) i)) free)
 
 -- ---- lay out
 
 module _ (n t : ℕ) (rest : List ℕ) where
-  free-words : (s : State) → s .ticking ≡ [] → s .dated ≡ [] → (i m : ℕ) → allSlots s i (replicate m free) rest ≡ replicate (8 * m) 0 ++ rest
-  free-words s a b i zero = refl
-  free-words s a b i (suc m) =
-      ap₂
-      (λ (p q : List Link).
-      slotWords (record { slots = s .slots; clock = s .clock; ticking = p; dated = q }) i free (allSlots s (suc i) (replicate m free) rest))
-      a b
-      ∙ ap {B = List ℕ} (λ (l : List ℕ). 0 ∷ 0 ∷ 0 ∷ 0 ∷ 0 ∷ 0 ∷ 0 ∷ 0 ∷ l) (free-words s a b (suc i) m)
+  free-words : (i m : ℕ) → allSlots (laidOut n t) i (replicate m free) rest ≡ replicate (8 * m) 0 ++ rest
+  free-words i zero = refl
+  free-words i (suc m) =
+      ap {B = List ℕ} (λ (l : List ℕ). 0 ∷ 0 ∷ 0 ∷ 0 ∷ 0 ∷ 0 ∷ 0 ∷ 0 ∷ l) (free-words (suc i) m)
       ∙ ap (λ (k : ℕ). replicate k 0 ++ rest) eight
     where
       eight : suc (suc (suc (suc (suc (suc (suc (suc (8 * m)))))))) ≡ 8 * suc m
@@ -64,7 +59,7 @@ module _ (n t : ℕ) (rest : List ℕ) where
   laid-words : write (laidOut n t) rest ≡ set (set (replicate (10 + 8 * n) 0 ++ rest) 0 n) 1 t
   laid-words =
       ap₂ {C = List ℕ} (λ (k : ℕ) (l : List ℕ). k ∷ t ∷ 0 ∷ 0 ∷ 0 ∷ 0 ∷ 0 ∷ 0 ∷ 0 ∷ 0 ∷ l) (length-replicate n free)
-      (free-words (laidOut n t) refl refl 1 n)
+      (free-words 1 n)
       ∙ ap (λ (k : ℕ). set (set (replicate k 0 ++ rest) 0 n) 1 t) ten
     where
       ten : suc (suc (suc (suc (suc (suc (suc (suc (suc (suc (8 * n)))))))))) ≡ 10 + 8 * n

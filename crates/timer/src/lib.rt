@@ -1,5 +1,5 @@
 // The timers of a table: laid out, created, found, cancelled, deleted, and asked for their ticks left. The calls that start timers are in crate
-// `starts`, those of the clock in `clock`; all twelve are named as in document 01 and stand in its order. None asks anything of its arguments:
+// `starts`, those of the clock in `clock`, those of the deferred server in `server`. None asks anything of its arguments:
 // every table, number and date is answered, and each contract gives status, answer and every word of table and list by one equation with the
 // model's `outcome` (model/specs/Outcome.antt). `statusOf` and `answerOf` (answers/specs/Answers.antt) say what an answer is in document 01's
 // numbers.
@@ -90,7 +90,7 @@ pub fn ident(table: &[u32], name: u32) -> Answer
     Answer::Done(ID_BASE + i)
 }
 
-// A waiting timer waits no more; one that isn't waiting stays as it is.
+// A waiting or queued timer is idle then; any other stays as it is.
 pub fn cancel(table: &mut [u32], id: u32) -> Answer
     ensures { λ r. ⌜ outcomeOf (statusOf r) (answerOf r) (now (table .exit)) [] ≡ outcome (now (table .entry)) (call.cancel id) ⌝ }
 {
@@ -102,7 +102,7 @@ pub fn cancel(table: &mut [u32], id: u32) -> Answer
     Answer::Done(0)
 }
 
-// A timer is cancelled if waiting, and its slot is free again.
+// A timer is cancelled if waiting or queued, and its slot is free again.
 pub fn delete(table: &mut [u32], id: u32) -> Answer
     ensures { λ r. ⌜ outcomeOf (statusOf r) (answerOf r) (now (table .exit)) [] ≡ outcome (now (table .entry)) (call.delete id) ⌝ }
 {
@@ -115,7 +115,7 @@ pub fn delete(table: &mut [u32], id: u32) -> Answer
     Answer::Done(0)
 }
 
-// The ticks until an interval timer fires; 0 for a timer that does not wait for ticks.
+// The ticks until a timer that waits for ticks fires or is queued; 0 for any other.
 pub fn ticks_left(table: &[u32], id: u32) -> Answer
     ensures { λ r. ⌜ outcomeOf (statusOf r) (answerOf r) (now (table .entry)) [] ≡ outcome (now (table .entry)) (call.ticksLeft id) ⌝ }
 {

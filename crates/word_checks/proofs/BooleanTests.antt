@@ -1,7 +1,7 @@
 -- Laws of Boolean tests and of lists of them, by cases on the tests. Assumes nothing.
 use Prim.Native.Nat.{ℕ, zero, suc}
 use mathlib.Core.Path.{_≡_, refl, sym, ap, _∙_}
-use mathlib.Core.Bool.{Bool, true, false, not, _&&_, and-true, and-false}
+use mathlib.Core.Bool.{Bool, true, false, not, _&&_, and-true, and-false, and-assoc}
 use mathlib.Core.List.{List, [], _∷_}
 use native.Mathlib.Omega.{arith}
 use lib.ListN.{getD}
@@ -48,14 +48,14 @@ grouped true false b c = refl
 grouped false a b c = refl
 
 -- two numbers are zero where their bits together are
-or-none : (a b : ℕ) → bitOr a b ≡ 0 → (a ≡ 0) × (b ≡ 0)
+pub or-none : (a b : ℕ) → bitOr a b ≡ 0 → (a ≡ 0) × (b ≡ 0)
 or-none a b z =
     let s = or-add-and a b in
     let l = and-le-l a b in
     let r = and-le-r a b in
     (omega arith, omega arith)
 
-or-both : (a b : ℕ) → eqb (bitOr a b) 0 ≡ (eqb a 0 && eqb b 0)
+pub or-both : (a b : ℕ) → eqb (bitOr a b) 0 ≡ (eqb a 0 && eqb b 0)
 or-both a b =
     same (eqb (bitOr a b) 0) (eqb a 0 && eqb b 0)
     (λ e.
@@ -65,14 +65,20 @@ or-both a b =
     let h = both (eqb a 0) (eqb b 0) e in
     rw (eqb-true a 0 (h .0), eqb-true b 0 (h .1)))
 
--- and three, and six
+-- and three, and seven
 pub or-zero : (a b c : ℕ) → eqb (bitOr (bitOr a b) c) 0 ≡ allZero a b c
 or-zero a b c = or-both (bitOr a b) c ∙ ap (λ (x : Bool). x && eqb c 0) (or-both a b) ∙ grouped true (eqb a 0) (eqb b 0) (eqb c 0)
 
-pub or-zeros : (a b c d e f : ℕ) → eqb (bitOr (bitOr (bitOr (bitOr (bitOr a b) c) d) e) f) 0 ≡ (allZero a b c && allZero d e f)
-or-zeros a b c d e f =
-    let abc = bitOr (bitOr a b) c in
-    or-both (bitOr (bitOr abc d) e) f
-    ∙ ap (λ (x : Bool). x && eqb f 0)
-    (or-both (bitOr abc d) e ∙ ap (λ (x : Bool). x && eqb e 0) (or-both abc d ∙ ap (λ (x : Bool). x && eqb d 0) (or-zero a b c)))
-    ∙ grouped (allZero a b c) (eqb d 0) (eqb e 0) (eqb f 0)
+pub or-zeros : (x a b c d e f : ℕ)
+    → eqb (bitOr (bitOr (bitOr (bitOr (bitOr (bitOr x a) b) c) d) e) f) 0 ≡ (eqb x 0 && (allZero a b c && allZero d e f))
+or-zeros x a b c d e f =
+    let xabc = bitOr (bitOr (bitOr x a) b) c in
+    three xabc d e f
+    ∙ ap (λ (y : Bool). y && allZero d e f) (three x a b c)
+    ∙ and-assoc (eqb x 0) (allZero a b c) (allZero d e f)
+  where
+    three : (x a b c : ℕ) → eqb (bitOr (bitOr (bitOr x a) b) c) 0 ≡ (eqb x 0 && allZero a b c)
+    three x a b c =
+        or-both (bitOr (bitOr x a) b) c
+        ∙ ap (λ (y : Bool). y && eqb c 0) (or-both (bitOr x a) b ∙ ap (λ (y : Bool). y && eqb b 0) (or-both x a))
+        ∙ grouped (eqb x 0) (eqb a 0) (eqb b 0) (eqb c 0)

@@ -1,19 +1,21 @@
 -- The header's tests: what they say where they pass, and what is left of them where most have passed. Assumes nothing.
-use Prim.Native.Nat.{ℕ, _+_, _*_, _≤_, _<_}
+use Prim.Native.Nat.{ℕ, _+_, _*_, _/_, _≤_, _<_}
 use mathlib.Core.Path.{_≡_, sym, _∙_}
 use mathlib.Core.Bool.{true, false, _||_, and-true}
 use mathlib.Core.List.{List, [], _∷_}
 use lib.ListN.{length}
+use native.Mathlib.Omega.{arith}
+use lib.Bits.{bitOr}
 use lib.Dec.{eqb}
-use borrow.Author.Tests.{eq-eqb, ne-eqb, lt-ltb, le-leb, leb-true, ltb-true}
+use borrow.Author.Tests.{eqb-true, eq-eqb, ne-eqb, lt-ltb, le-leb, leb-true, ltb-true}
 use Rattle.calendar.specs.Calendar.{lastSecond}
-use Rattle.model.proofs.ListLaws.{clash, all-at, all-true}
-use Rattle.model.specs.Words.{word, slotCount, ticksPerSecond, clockSet, seconds, ticksInto, firstDated}
+use Rattle.model.proofs.ListLaws.{all-at}
+use Rattle.model.specs.Words.{word, slotCount, ticksPerSecond, clockSet, seconds, ticksInto, firstDated, serverInitiated}
 use Rattle.model.specs.Sound.{headerTests, headerSound}
 use Rattle.word_checks.specs.Tested.{allZero}
-use Rattle.word_checks.proofs.BooleanTests.{never}
+use Rattle.word_checks.proofs.BooleanTests.{never, or-none}
 
--- what all of them say but the last four
+-- what all of them say but the last
 pub record Ranges (t : List ℕ) : Type 0 where
   pub slots : (1 ≤ slotCount t) × (slotCount t ≤ 255)
   pub long : 10 + 8 * slotCount t ≤ length t
@@ -21,6 +23,15 @@ pub record Ranges (t : List ℕ) : Type 0 where
   pub flag : clockSet t ≤ 1
   pub second : seconds t ≤ lastSecond
   pub ticks : ticksInto t < ticksPerSecond t
+  pub spare : word t 7 ≡ 0
+  pub server : serverInitiated t ≤ 1
+
+-- one test for the spare word and the server's
+pub bits-none : (a b : ℕ) → a ≡ 0 → b ≤ 1 → bitOr a (b / 2) ≡ 0
+bits-none a b e h = let z : b / 2 ≡ 0 = omega arith in rw (e, z)
+
+pub none-bits : (a b : ℕ) → bitOr a (b / 2) ≡ 0 → (a ≡ 0) × (b ≤ 1)
+none-bits a b e = let z = or-none a (b / 2) e in (z .0, omega (arith, z .1))
 
 module _ (t : List ℕ) where
   pub header-ranges : headerSound t ≡ true → Ranges t
@@ -34,25 +45,17 @@ module _ (t : List ℕ) where
         flag = leb-true (clockSet t) 1 (at 5);
         second = leb-true (seconds t) lastSecond (at 6);
         ticks = ltb-true (ticksInto t) (ticksPerSecond t) (at 7);
+        spare = eqb-true (word t 7) 0 (at 8);
+        server = leb-true (serverInitiated t) 1 (at 9);
       }
 
   pub out-of-range : (Ranges t → ⊥) → false ≡ headerSound t
   out-of-range f = never (headerSound t) (λ e. f (header-ranges e))
 
-  pub spare-false : allZero (word t 7) (word t 8) (word t 9) ≡ false → false ≡ headerSound t
-  unfolding headerSound
-  spare-false z =
-      never (headerSound t)
-      (λ e.
-      let at = all-at (headerTests t) e in
-      clash (sym (all-true (eqb (word t 7) 0 ∷ eqb (word t 8) 0 ∷ eqb (word t 9) 0 ∷ []) (at 8, (at 9, (at 10, tt)))) ∙ z))
-
   -- the rest is right: the words of a clock that is not set decide
-  header-rest : Ranges t → allZero (word t 7) (word t 8) (word t 9) ≡ true
-      → headerSound t ≡ (eqb (clockSet t) 1 || allZero (seconds t) (ticksInto t) (firstDated t))
+  header-rest : Ranges t → headerSound t ≡ (eqb (clockSet t) 1 || allZero (seconds t) (ticksInto t) (firstDated t))
   unfolding headerSound
-  header-rest r z =
-      let at = all-at (eqb (word t 7) 0 ∷ eqb (word t 8) 0 ∷ eqb (word t 9) 0 ∷ []) z in
+  header-rest r =
       rw (
         le-leb 1 (slotCount t) (r .slots .0),
         le-leb (slotCount t) 255 (r .slots .1),
@@ -62,15 +65,13 @@ module _ (t : List ℕ) where
         le-leb (clockSet t) 1 (r .flag),
         le-leb (seconds t) lastSecond (r .second),
         lt-ltb (ticksInto t) (ticksPerSecond t) (r .ticks),
-        at 0,
-        at 1,
-        at 2,
+        eq-eqb (word t 7) 0 (r .spare),
+        le-leb (serverInitiated t) 1 (r .server),
       )
       (and-true (eqb (clockSet t) 1 || allZero (seconds t) (ticksInto t) (firstDated t)))
 
-  pub clock-set : Ranges t → allZero (word t 7) (word t 8) (word t 9) ≡ true → clockSet t ≡ 1 → true ≡ headerSound t
-  clock-set r z e = sym (header-rest r z ∙ rw (eq-eqb (clockSet t) 1 e))
+  pub clock-set : Ranges t → clockSet t ≡ 1 → true ≡ headerSound t
+  clock-set r e = sym (header-rest r ∙ rw (eq-eqb (clockSet t) 1 e))
 
-  pub clock-not-set : Ranges t → allZero (word t 7) (word t 8) (word t 9) ≡ true → (clockSet t ≡ 1 → ⊥)
-      → allZero (seconds t) (ticksInto t) (firstDated t) ≡ headerSound t
-  clock-not-set r z e = sym (header-rest r z ∙ rw (ne-eqb (clockSet t) 1 e))
+  pub clock-not-set : Ranges t → (clockSet t ≡ 1 → ⊥) → allZero (seconds t) (ticksInto t) (firstDated t) ≡ headerSound t
+  clock-not-set r e = sym (header-rest r ∙ rw (ne-eqb (clockSet t) 1 e))

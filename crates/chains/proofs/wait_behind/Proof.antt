@@ -1,8 +1,8 @@
--- `chains::wait_behind` meets its contract, by its three cases: no slot, and a slot of either chain. Assumes nothing.
+-- `chains::wait_behind` meets its contract, by its cases: no slot, and a slot of each chain. Assumes nothing.
 use native.Mathlib.Omega.{arith}
 use mathlib.Core.Path.{sym, _∙_}
 use borrow.Author.Needs.{needs}
-use Rattle.chains.proofs.EditedWords.{wait-behind-ticks, wait-behind-date}
+use Rattle.chains.proofs.EditedWords.{wait-behind-ticks, wait-behind-date, wait-behind-queue}
 use Rattle.chains.proofs.wait_behind.Statement.{statement}
 use Rattle.chains.proofs.wait_behind.Tie as tie
 
@@ -23,6 +23,9 @@ sub-result c =
 enum-told-2 : tie.Need-enum-told-2
 enum-told-2 c = search needs
 
+enum-told-3 : tie.Need-enum-told-3
+enum-told-3 c = search needs
+
 returns-2 : tie.Need-returns-2
 returns-2 c =
     let some = c .before .before .before in
@@ -35,6 +38,12 @@ returns-3 c =
     let a = some .before .before .args in
     rw (c .enum-told2 .given .1) (c .before .before .get .ensures ∙ sym (wait-behind-date (a .t .now) (a .w) (a .n) (some .if1 .left)))
 
+returns-4 : tie.Need-returns-4
+returns-4 c =
+    let some = c .before .before .before in
+    let a = some .before .before .args in
+    rw (c .enum-told3 .given .1) (c .before .before .get .ensures ∙ sym (wait-behind-queue (a .t .now) (a .w) (a .n) (some .if1 .left)))
+
 pub wait-behind-spec : {M : Type 1} → statement M
 wait-behind-spec =
-    tie.close (tie.spec returns get-requires enum-told sub-result enum-told-2 returns-2 returns-3)
+    tie.close (tie.spec returns get-requires enum-told sub-result enum-told-2 enum-told-3 returns-2 returns-3 returns-4)

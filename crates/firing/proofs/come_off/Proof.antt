@@ -28,13 +28,17 @@ put-entry-requires c κs = search needs
 stopped-kind-requires : tie.Need-stopped-kind-requires
 stopped-kind-requires c κs = search needs
 
-stop-in-requires : tie.Need-stop-in-requires
-stop-in-requires c κs =
+stop-first-requires : tie.Need-stop-first-requires
+stop-first-requires c κs =
     let pre = c .before .before .before .before .before .before .before .before .before .before .before .before .pre in
     record {
-      in-table = pre .in-table;
-      waits = rw (pre .is) at (pre .waits);
-      kind = c .stopped-kind .ensures ∙ ap (λ (n : ℕ). kindAt n .whenStopped) (pre .is);
+      stops = record {
+        in-table = pre .in-table;
+        waits = rw (pre .is) at (pre .waits);
+        kind = c .stopped-kind .ensures ∙ ap (λ (n : ℕ). kindAt n .whenStopped) (pre .is);
+      };
+      first = pre .first;
+      due = pre .due;
     }
 
 same-length : tie.Need-same-length
@@ -47,8 +51,9 @@ returns : tie.Need-returns
 returns c =
     let listing = c .before .before .before .before .before .before .before in
     record {
-      table = c .before .before .stop-in .ensures;
+      table = c .before .before .stop-first .ensures .0;
       entry = rw (← listing .before .before .before .before .get .ensures, ← listing .before .before .get2 .ensures) (listing .put-entry .ensures);
+      followed = c .before .before .stop-first .ensures .1;
     }
 
 pub come-off-spec : {M : Type 1} → statement M
@@ -60,7 +65,7 @@ come-off-spec =
     add-put-entry
     put-entry-requires
     stopped-kind-requires
-    stop-in-requires
+    stop-first-requires
     same-length
     same-length-2
     returns)

@@ -1,19 +1,20 @@
 -- `firing::take_off` meets its contract. The loop's invariant is `Taking`: what is left to take off from here is all that is left from the
 -- start. The chain gets shorter with each turn. Assumes nothing.
-use mathlib.Core.Logic.{⊎-elim}
 use native.Mathlib.Omega.{arith}
 use lib.ListN.{length}
 use Rattle.model.specs.State.{chainOf}
 use Rattle.model.specs.Words.{read}
-use Rattle.firing.proofs.TakingOff.{Taking, taking-start, taken-length, taken-list-length, taking-none, taking-front, taking-later, taking-off, taking-less, taking-again, one-more, no-more}
+use Rattle.firing.specs.Lists.{tallyOf}
+use Rattle.firing.proofs.TakingOff.{Taking, taking-start, taken-length, taken-list-length, taking-none, taking-front, taking-later, taking-turn, taking-less, taking-again}
 use Rattle.firing.proofs.take_off.Statement.{statement}
 use Rattle.firing.proofs.take_off.Tie as tie
 
 abbrev Inv-loop : tie.InvT-loop
-Inv-loop t₀ list₀ chain limit from n₀ periodic₀ i₀ t list n periodic i = Taking chain t₀ list₀ limit from t list n periodic i
+Inv-loop t₀ list₀ chain limit from end first counts₀ t list counts =
+    Taking chain t₀ list₀ limit from t list (tallyOf (counts .count) (counts .periodic) (counts .end) (counts .front))
 
 abbrev μ-loop : tie.MeasureT-loop
-μ-loop t₀ list₀ chain limit from n₀ periodic₀ i₀ t list n periodic i = length (chainOf chain (read t))
+μ-loop t₀ list₀ chain limit from end first counts₀ t list counts = length (chainOf chain (read t))
 
 follower-requires : tie.Need-follower-requires Inv-loop μ-loop
 follower-requires c κs = omega (arith, c .before .before .before .pre .holds .long)
@@ -23,79 +24,57 @@ loop-holds c = taking-start (c .before .before .before .before .pre) (c .followe
 
 get-requires : tie.Need-get-requires Inv-loop μ-loop
 get-requires c κs =
-    let f = c .before .before .loop .inv in
-    (omega arith, omega (arith, taking-front f (c .before .if1 .left) .high, f .room .holds .long))
+    let first = c .before in
+    let f = first .before .before .loop .inv in
+    (omega arith, omega (arith, taking-front f (first .if1 .left) .high, f .room .holds .long))
 
-get-requires-2 : tie.Need-get-requires-2 Inv-loop μ-loop
-get-requires-2 c κs =
-    let turn = c .before .before .before .before in
-    let f = turn .before .loop .inv in
-    (omega arith, omega (arith, taking-front f (turn .if1 .left) .high, f .room .holds .long))
-
-come-off-requires : tie.Need-come-off-requires Inv-loop μ-loop
-come-off-requires c κs =
-    let kind = c .before .before .before in
-    let test = kind .before .before in
-    let turn = test .before .before .before in
-    taking-off (turn .before .loop .inv) (turn .if1 .left) (test .before .get .ensures) (test .if2 .left) (kind .get2 .ensures)
-
-add-n : tie.Need-add-n Inv-loop μ-loop
-add-n c =
-    let kind = c .before .before .before .before .before .before .before .before in
-    let test = kind .before .before in
-    let turn = test .before .before .before in
-    omega (arith, taking-off (turn .before .loop .inv) (turn .if1 .left) (test .before .get .ensures) (test .if2 .left) (kind .get2 .ensures) .few)
-
-follower-requires-2 : tie.Need-follower-requires-2 Inv-loop μ-loop
-follower-requires-2 c κs =
-    let off = c .before .before .before .before .before in
-    omega (arith, off .come-off .kept, off .before .before .before .before .before .before .before .before .before .before .loop .inv .room .holds .long)
+turn-requires : tie.Need-turn-requires Inv-loop μ-loop
+turn-requires c κs =
+    let test = c .before .before in
+    let first = test .before .before .before in
+    taking-turn (first .before .before .loop .inv) (first .if1 .left) (test .before .get .ensures) (test .if2 .left)
 
 loop-less : tie.Need-loop-less Inv-loop μ-loop
 loop-less c =
-    let off = c .before .before .before .before .before .before in
-    let test = off .before .before .before .before .before .before in
-    let turn = test .before .before .before in
-    taking-less (turn .before .loop .inv) (turn .if1 .left) (test .before .get .ensures) (test .if2 .left) (off .come-off .ensures)
+    let off = c .before .before .before .before in
+    let test = off .before .before .before in
+    let first = test .before .before .before in
+    taking-less (first .before .before .loop .inv) (first .if1 .left) (test .before .get .ensures) (test .if2 .left) (off .turn .ensures)
 
 loop-again : tie.Need-loop-again Inv-loop μ-loop
 loop-again c =
-    let off = c .before .before .before .before .before .before in
-    let kind = off .before .before .before .before in
-    let test = kind .before .before in
-    let turn = test .before .before .before in
-    taking-again (turn .before .loop .inv) (turn .if1 .left) (test .before .get .ensures) (test .if2 .left) (off .come-off .ensures)
-    (⊎-elim (λ w. one-more (turn .before .loop .periodic) (kind .get2 .ensures) (w .0 .taken) (w .1))
-    (λ w. no-more (turn .before .loop .periodic) (kind .get2 .ensures) (w .0 .left) (w .1)) (off .before .before .before .if3 .came))
-    (c .follower2 .ensures)
+    let off = c .before .before .before .before in
+    let test = off .before .before .before in
+    let first = test .before .before .before in
+    taking-again (first .before .before .loop .inv) (first .if1 .left) (test .before .get .ensures) (test .if2 .left) (off .turn .ensures)
 
 same-length : tie.Need-same-length Inv-loop μ-loop
 same-length c =
-    taken-length (c .before .before .before .before .before .before .pre) (taking-none (c .before .loop .inv) (c .if1 .taken))
+    taken-length (c .before .before .before .before .before .before .before .pre) (taking-none (c .before .before .loop .inv) (c .if1 .taken))
 
 same-length-2 : tie.Need-same-length-2 Inv-loop μ-loop
 same-length-2 c =
-    taken-list-length (c .before .before .before .before .before .before .pre) (taking-none (c .before .loop .inv) (c .if1 .taken))
+    taken-list-length (c .before .before .before .before .before .before .before .pre) (taking-none (c .before .before .loop .inv) (c .if1 .taken))
 
 returns : tie.Need-returns Inv-loop μ-loop
-returns c = taking-none (c .before .loop .inv) (c .if1 .taken)
+returns c = taking-none (c .before .before .loop .inv) (c .if1 .taken)
 
 same-length-3 : tie.Need-same-length-3 Inv-loop μ-loop
 same-length-3 c =
-    let turn = c .before .before .before in
-    taken-length (turn .before .before .before .before .before .before .pre)
-    (taking-later (turn .before .loop .inv) (turn .if1 .left) (c .before .get .ensures) (c .if2 .taken))
+    let first = c .before .before .before in
+    taken-length (first .before .before .before .before .before .before .before .pre)
+    (taking-later (first .before .before .loop .inv) (first .if1 .left) (c .before .get .ensures) (c .if2 .taken))
 
 same-length-4 : tie.Need-same-length-4 Inv-loop μ-loop
 same-length-4 c =
-    let turn = c .before .before .before in
-    taken-list-length (turn .before .before .before .before .before .before .pre)
-    (taking-later (turn .before .loop .inv) (turn .if1 .left) (c .before .get .ensures) (c .if2 .taken))
+    let first = c .before .before .before in
+    taken-list-length (first .before .before .before .before .before .before .before .pre)
+    (taking-later (first .before .before .loop .inv) (first .if1 .left) (c .before .get .ensures) (c .if2 .taken))
 
 returns-2 : tie.Need-returns-2 Inv-loop μ-loop
 returns-2 c =
-    let turn = c .before .before .before in
-    taking-later (turn .before .loop .inv) (turn .if1 .left) (c .before .get .ensures) (c .if2 .taken)
+    let first = c .before .before .before in
+    taking-later (first .before .before .loop .inv) (first .if1 .left) (c .before .get .ensures) (c .if2 .taken)
 
 pub take-off-spec : {M : Type 1} → statement M
 take-off-spec =
@@ -106,10 +85,7 @@ take-off-spec =
     follower-requires
     loop-holds
     get-requires
-    get-requires-2
-    come-off-requires
-    add-n
-    follower-requires-2
+    turn-requires
     loop-less
     loop-again
     same-length

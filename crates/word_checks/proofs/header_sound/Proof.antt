@@ -1,12 +1,26 @@
 -- `word_checks::header_sound` meets its contract: a test that fails contradicts what a sound header says, and the last ones decide.
 -- Assumes nothing.
-use mathlib.Core.Path.{_∙_}
+use Prim.Native.Nat.{ℕ, _≤_}
+use mathlib.Core.Path.{_≡_, _∙_}
+use mathlib.Core.List.{List}
 use native.Mathlib.Omega.{arith}
-use Rattle.word_checks.proofs.BooleanTests.{passed, failed}
-use Rattle.word_checks.proofs.HeaderTests.{out-of-range, spare-false, clock-set, clock-not-set}
+use Rattle.model.specs.Words.{word, serverInitiated}
+use Rattle.word_checks.proofs.HeaderTests.{bits-none, none-bits, out-of-range, clock-set, clock-not-set}
 use borrow.Author.Needs.{needs}
 use Rattle.word_checks.proofs.header_sound.Statement.{statement}
 use Rattle.word_checks.proofs.header_sound.Tie as tie
+
+-- ---- the spare word and the server's
+
+abbrev words : tie.Else10 → List ℕ
+words c =
+    let b = c .before .before .before .before .before .before .before .before .before in
+    b .before .before .before .before .before .before .before .before .before .args .t .now
+
+spares : (c : tie.Else10) → (word (words c) 7 ≡ 0) × (serverInitiated (words c) ≤ 1)
+spares c = none-bits (word (words c) 7) (serverInitiated (words c)) (c .if10 .left)
+
+-- ---- the needs
 
 returns : tie.Need-returns
 returns c = out-of-range _ (λ r. omega arith)
@@ -59,6 +73,21 @@ shared-slice-read-if9 c = search needs
 returns-9 : tie.Need-returns-9
 returns-9 c = out-of-range _ (λ r. omega arith)
 
+shared-slice-read-if10 : tie.Need-shared-slice-read-if10
+shared-slice-read-if10 c = search needs
+
+shared-slice-read-if10-2 : tie.Need-shared-slice-read-if10-2
+shared-slice-read-if10-2 c = search needs
+
+returns-10 : tie.Need-returns-10
+returns-10 c = out-of-range _ (λ r. c .if10 .taken (bits-none _ _ (r .spare) (r .server)))
+
+shared-slice-read-if11 : tie.Need-shared-slice-read-if11
+shared-slice-read-if11 c = search needs
+
+returns-11 : tie.Need-returns-11
+returns-11 c = clock-set _ (omega (arith, spares (c .before .before))) (c .if11 .taken)
+
 shared-slice-read-all-zero : tie.Need-shared-slice-read-all-zero
 shared-slice-read-all-zero c = search needs
 
@@ -71,34 +100,10 @@ shared-slice-read-all-zero-3 c = search needs
 all-zero-requires : tie.Need-all-zero-requires
 all-zero-requires c κs = search needs
 
-returns-10 : tie.Need-returns-10
-returns-10 c = spare-false _ (failed (c .before .all-zero .ensures) (c .if10 .taken))
-
-shared-slice-read-if11 : tie.Need-shared-slice-read-if11
-shared-slice-read-if11 c = search needs
-
-returns-11 : tie.Need-returns-11
-returns-11 c =
-    let z = passed (c .before .before .before .all-zero .ensures) (c .before .before .if10 .left) in
-    clock-set _ (omega arith) z (c .if11 .taken)
-
-shared-slice-read-all-zero-4 : tie.Need-shared-slice-read-all-zero-4
-shared-slice-read-all-zero-4 c = search needs
-
-shared-slice-read-all-zero-5 : tie.Need-shared-slice-read-all-zero-5
-shared-slice-read-all-zero-5 c = search needs
-
-shared-slice-read-all-zero-6 : tie.Need-shared-slice-read-all-zero-6
-shared-slice-read-all-zero-6 c = search needs
-
-all-zero-requires-2 : tie.Need-all-zero-requires-2
-all-zero-requires-2 c κs = search needs
-
 returns-12 : tie.Need-returns-12
 returns-12 c =
     let b = c .before .before .before .before in
-    let z = passed (b .before .before .before .all-zero .ensures) (b .before .before .if10 .left) in
-    c .all-zero2 .ensures ∙ clock-not-set _ (omega arith) z (b .if11 .left)
+    c .all-zero .ensures ∙ clock-not-set _ (omega (arith, spares (b .before .before))) (b .if11 .left)
 
 pub header-sound-spec : {M : Type 1} → statement M
 header-sound-spec =
@@ -121,15 +126,13 @@ header-sound-spec =
     returns-8
     shared-slice-read-if9
     returns-9
+    shared-slice-read-if10
+    shared-slice-read-if10-2
+    returns-10
+    shared-slice-read-if11
+    returns-11
     shared-slice-read-all-zero
     shared-slice-read-all-zero-2
     shared-slice-read-all-zero-3
     all-zero-requires
-    returns-10
-    shared-slice-read-if11
-    returns-11
-    shared-slice-read-all-zero-4
-    shared-slice-read-all-zero-5
-    shared-slice-read-all-zero-6
-    all-zero-requires-2
     returns-12)

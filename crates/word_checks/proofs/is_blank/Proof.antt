@@ -21,8 +21,8 @@ get-requires-5 c κs = search needs
 get-requires-6 : tie.Need-get-requires-6
 get-requires-6 c κs = search needs
 
-all-six-zero-requires : tie.Need-all-six-zero-requires
-all-six-zero-requires c κs = search needs
+all-seven-zero-requires : tie.Need-all-seven-zero-requires
+all-seven-zero-requires c κs = search needs
 
 returns : tie.Need-returns
 returns c = cc
@@ -37,5 +37,5 @@ is-blank-spec =
     get-requires-4
     get-requires-5
     get-requires-6
-    all-six-zero-requires
+    all-seven-zero-requires
     returns)

@@ -1,0 +1,2 @@
+pub mod GoingBack
+pub mod Queueing
