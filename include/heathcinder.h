@@ -9,7 +9,7 @@
  *          1  ticks in a second T, 1 to 1000                 1  name
  *          2  clock set, 0 or 1                              2  interval in ticks
  *          3  seconds since 1988-01-01 00:00:00              3  wait: ticks after the slot before it in its chain
- *          4  ticks into the second, below T                    (kinds 4, 6, 10), or a date in seconds (5, 11)
+ *          4  ticks into the second, below T                    (kinds 4, 6, 10), a date in seconds (5, 11), else 0
  *          5  first slot of the interval chain               4  routine
  *          6  first slot of the dated chain                  5  user data
  *          7  zero                                           6  next slot in its chain or in the queue

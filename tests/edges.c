@@ -7,7 +7,8 @@
 #include <string.h>
 
 _Static_assert(HC_SUCCESSFUL == 0 && HC_INVALID_NAME == 3 && HC_INVALID_ID == 4 && HC_TOO_MANY == 5 && HC_INVALID_SIZE == 8 &&
-               HC_INVALID_ADDRESS == 9 && HC_INVALID_NUMBER == 10 && HC_NOT_DEFINED == 11 && HC_INCORRECT_STATE == 14 &&
+               HC_INVALID_ADDRESS == 9 && HC_INVALID_NUMBER == 10 && HC_NOT_DEFINED == 11 && HC_UNSATISFIED == 13 &&
+               HC_INCORRECT_STATE == 14 &&
                HC_INVALID_CLOCK == 20 && HC_NOT_SOUND == 100 && HC_LIST_TOO_SHORT == 101,
                "the header's statuses have the specification's numbers");
 _Static_assert(sizeof(struct hc_wall_time) == 7 * sizeof(uint32_t), "a wall time is seven words");
@@ -369,8 +370,12 @@ static void server_not_initiated(void)
     list_stays(0);
     is("it is not started", KIND_NEVER_STARTED, kind(1));
     is("word 8", 0, table[HEADER_INITIATED]);
+    is("fire after 5", 0, fire_after(two, 5, 8, 80));
     is("initiate", 0, initiate_server());
     is("word 8", 1, table[HEADER_INITIATED]);
+    is("ticks left", 0, ticks_left(two));
+    is("the other waits on", 5, answer);
+    is("cancel", 0, cancel(two));
     is("initiate again", 14, initiate_server());
     is("word 8", 1, table[HEADER_INITIATED]);
     is("server fire after", 0, server_fire_after(one, 1, 7, 70));
@@ -400,6 +405,8 @@ static void server_refusals(void)
     is("it is not started", KIND_NEVER_STARTED, kind(1));
     is("server fire when one second later", 0, server_fire_when(one, later, 7, 70));
     is("it waits for a date", KIND_SERVER_DATED, kind(1));
+    later.ticks = 4294967295u;
+    is("server fire when ignores the ticks field", 0, server_fire_when(one, later, 7, 70));
     is("ticks left", 0, ticks_left(one));
     is("it does not wait for ticks", 0, answer);
     is("ticks 4294967295", 0, server_fire_after(one, 4294967295u, 7, 70));

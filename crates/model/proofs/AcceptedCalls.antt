@@ -1,6 +1,6 @@
 -- What an accepted call has passed. No rule's number is 0, so the status is 0 only where no rule applies: each test is false, and is read as
 -- a fact. Assumes nothing.
-use mathlib.Core.Path.{_≡_, refl, sym}
+use mathlib.Core.Path.{_≡_, refl, sym, ap}
 use Prim.Native.Nat.{ℕ, zero, suc, _+_, _*_, _≤_, _<_}
 use native.Mathlib.Nat.{pos-of-ne-zero}
 use native.Mathlib.Omega.{arith}
@@ -8,7 +8,7 @@ use mathlib.Core.Bool.{Bool, true, false, not, _&&_}
 use mathlib.Core.List.{List, [], _∷_}
 use lib.ListN.{length, getD, take}
 use lib.Dec.{leb, ltb, eqb}
-use borrow.Author.Tests.{leb-true, ltb-true, ltb-false, le-leb, lt-ltb, eqb-false, ne-eqb, not-true, not-false}
+use borrow.Author.Tests.{leb-true, ltb-true, ltb-false, le-leb, lt-ltb, le-ltb, eqb-false, ne-eqb, not-true, not-false}
 use Rattle.calendar.specs.declared.WallTime.{WallTime}
 use Rattle.calendar.specs.Calendar.{allOf, valid, secondsOf}
 use Rattle.model.specs.Lists.{All}
@@ -17,8 +17,9 @@ use Rattle.model.specs.Calls.{Call, layOut, create, ident, cancel, delet
 use Rattle.model.specs.Kinds.{linked, lastByTicks}
 use Rattle.model.specs.State.{State, slotAt, idBase, indexOf, names}
 use Rattle.model.specs.Directives.{lowestFree, lowestNamed, isShort, limits, refusals}
+use Rattle.model.specs.Sound.{sound}
 use Rattle.model.proofs.StatusLaws.{not-zero}
-use Rattle.model.proofs.ListLaws.{cases, clash, both, all-at, all-true}
+use Rattle.model.proofs.ListLaws.{cases, clash, both, and-both, all-at, all-true}
 
 -- ---- any list of rules
 
@@ -185,3 +186,40 @@ module _ (words : List ℕ) (s : State) where
   accepted-facts (serverFireWhen id w r u) e =
       let p = not-refused (serverFireWhen id w r u) e in (not-false (s .server) (p 1), by-date id w r (p 2) (p 3) (p 4) (p 5))
   accepted-facts (serve list) e = let p = not-refused (serve list) e in (not-false (s .server) (p 2), ltb-false (length list) 3 (p 1))
+
+  -- ---- and the other way: on a sound table a call that passes these is accepted, so that no rule is given where none of them says so
+
+  is-known : (id : ℕ) → Named s id → not (names s id) ≡ false
+  is-known id h = ap not (named-true s id h)
+
+  above : (n : ℕ) → 0 < n → eqb n 0 ≡ false
+  above n p = ne-eqb n 0 (λ z. omega arith)
+
+  no-rule : (c : Call) → sound words ≡ true → Accepted words s c → All (λ r. r .given ≡ false) (refusals words s c)
+  no-rule (layOut n t) ok h =
+      (ap not (all-true (limits n t) (le-leb 1 n (h .slots-low), (le-leb n 255 (h .slots-high), (le-leb 1 t (h .ticks-low), (le-leb t 1000 (h .ticks-high), tt))))),
+      (le-ltb (length words) (10 + 8 * n) (h .fits), tt))
+  no-rule (create name) ok h = (ap not ok, (above name (h .0), (above (lowestFree s) (h .1), tt)))
+  no-rule (ident name) ok h = (ap not ok, (above name (h .0), (above (lowestNamed s name) (h .1), tt)))
+  no-rule (cancel id) ok h = (ap not ok, (is-known id h, tt))
+  no-rule (delete id) ok h = (ap not ok, (is-known id h, tt))
+  no-rule (fireAfter id n r u) ok h = (ap not ok, (above n (h .ticks), (above r (h .routine), (is-known id (h .names-one), tt))))
+  no-rule (fireWhen id w r u) ok h =
+      (ap not ok, (ap not (h .running), (above r (h .routine), (ap not (and-both (valid w) (ltb (s .clock .second) (secondsOf w)) (h .is-valid)
+      (lt-ltb (s .clock .second) (secondsOf w) (h .later))), (is-known id (h .names-one), tt)))))
+  no-rule (fireEvery id n r u) ok h = (ap not ok, (above n (h .ticks), (above r (h .routine), (is-known id (h .names-one), tt))))
+  no-rule (reset id) ok h = (ap not ok, (is-known id (h .0), (ap not (h .1), tt)))
+  no-rule (ticksLeft id) ok h = (ap not ok, (is-known id h, tt))
+  no-rule (tick list) ok h = (ap not ok, (le-ltb (length list) (3 * length (s .slots)) h, tt))
+  no-rule (setClock w list) ok h = (ap not ok, (le-ltb (length list) (3 * length (s .slots)) (h .0), (ap not (h .1), tt)))
+  no-rule getClock ok h = (ap not ok, (ap not h, tt))
+  no-rule initiateServer ok h = (ap not ok, (h, tt))
+  no-rule (serverFireAfter id n r u) ok h =
+      (ap not ok, (ap not (h .0), (above n (h .1 .ticks), (above r (h .1 .routine), (is-known id (h .1 .names-one), tt)))))
+  no-rule (serverFireWhen id w r u) ok h =
+      (ap not ok, (ap not (h .0), (ap not (h .1 .running), (above r (h .1 .routine), (ap not (and-both (valid w) (ltb (s .clock .second) (secondsOf w)) (h .1 .is-valid)
+      (lt-ltb (s .clock .second) (secondsOf w) (h .1 .later))), (is-known id (h .1 .names-one), tt))))))
+  no-rule (serve list) ok h = (ap not ok, (le-ltb (length list) 3 (h .1), (ap not (h .0), tt)))
+
+  pub facts-accepted : (c : Call) → sound words ≡ true → Accepted words s c → firstOf (refusals words s c) ≡ 0
+  facts-accepted c ok h = none-given (refusals words s c) (no-rule c ok h)

@@ -34,6 +34,7 @@ pub mod ListWords
 pub mod Demand3
 pub mod Readings
 pub mod CallReadings
+pub mod QueueReadings
 pub mod Cases
 pub mod WorkedCases
 pub mod ServerCases

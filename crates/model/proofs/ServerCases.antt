@@ -45,6 +45,13 @@ ready = 3 ∷ 10 ∷ replicate 6 0 ++ (1 ∷ 0 ∷ created 1 ++ created 2 ++ cre
 abbrev clocked : List ℕ
 clocked = 4 ∷ 1 ∷ 1 ∷ 378691200 ∷ 0 ∷ 0 ∷ 0 ∷ 0 ∷ 1 ∷ 0 ∷ created 1 ++ created 2 ++ created 3 ++ created 4
 
+-- one waits for ticks and one for a date, by word 8
+abbrev started : ℕ → List ℕ
+started server =
+    2 ∷ 10 ∷ 1 ∷ 378691200 ∷ 3 ∷ 1 ∷ 2 ∷ 0 ∷ server ∷ 0
+    ∷ 4 ∷ 1 ∷ 5 ∷ 4 ∷ 7 ∷ 70 ∷ 0 ∷ 0
+    ∷ 5 ∷ 2 ∷ 0 ∷ 378691209 ∷ 8 ∷ 80 ∷ 0 ∷ 0 ∷ []
+
 -- two queued timers, and one that fired between them
 abbrev queuedAround : List ℕ
 queuedAround =
@@ -75,6 +82,8 @@ serverCases =
     -- Initiate a second time since the lay out is 14; word 8 is 1 once initiated.
     calls (replicate 34 0) (layOut 3 10 ∷ create 1 ∷ create 2 ∷ create 3 ∷ initiateServer ∷ initiateServer ∷ [])
     (yes 0 ∷ yes one ∷ yes two ∷ yes third ∷ yes 0 ∷ no 14 ∷ []) (unlent 6) ready
+    -- It changes word 8 alone: timers wait on, and the clock stays.
+    ∷ calls (started 0) (initiateServer ∷ []) (yes 0 ∷ []) (unlent 1) (started 1)
     -- Lay out clears words 8 and 9; initiate is 0 again, and the queue is empty.
     ∷ calls queuedAround (layOut 3 10 ∷ []) (yes 0 ∷ []) (unlent 1) (3 ∷ 10 ∷ replicate 32 0)
     ∷ calls queuedAround (layOut 3 10 ∷ serve three ∷ initiateServer ∷ initiateServer ∷ serve three ∷ [])

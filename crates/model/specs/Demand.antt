@@ -93,7 +93,7 @@ firstNumber answer = getD answer 0 0
 -- What is demanded of the call c, which is the event e where it is accepted, on the table t after these events.
 pub record Answers (t : List ℕ) (es : List Event) (c : Call) (e : Event) : Type 0 where
   pub lists : outcome t c .status ≡ 0 → Lists t es c e
-  -- A tick, a set clock and a serve are lent that list, no other call is.
+  -- A tick, a set clock and a serve are lent that list, no other call is (`lentTo`).
   pub lent-tick : (list : List ℕ) → c ≡ tick list → lentTo c ≡ list
   pub lent-set : (w : WallTime) (list : List ℕ) → c ≡ setClock w list → lentTo c ≡ list
   pub lent-serve : (list : List ℕ) → c ≡ serve list → lentTo c ≡ list

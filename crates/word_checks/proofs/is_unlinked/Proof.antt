@@ -1,4 +1,5 @@
 -- `word_checks::is_unlinked` meets its contract: the words that `get` gives are wait, next and previous. Assumes nothing.
+use mathlib.Core.Path.{_∙_}
 use borrow.Author.Needs.{needs}
 use Rattle.word_checks.proofs.is_unlinked.Statement.{statement}
 use Rattle.word_checks.proofs.is_unlinked.Tie as tie
@@ -18,7 +19,7 @@ all-zero-requires c κs = search needs
 returns : tie.Need-returns
 returns c =
     let b = c .before in
-    rw (← b .before .before .get .ensures, ← b .before .get2 .ensures, ← b .get3 .ensures) (c .all-zero .ensures)
+    c .all-zero .ensures ∙ rw (b .before .before .get .ensures, b .before .get2 .ensures, b .get3 .ensures)
 
 pub is-unlinked-spec : {M : Type 1} → statement M
 is-unlinked-spec =
