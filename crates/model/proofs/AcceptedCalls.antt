@@ -196,17 +196,29 @@ module _ (words : List ℕ) (s : State) where
   above n p = ne-eqb n 0 (λ z. omega arith)
 
   no-rule : (c : Call) → sound words ≡ true → Accepted words s c → All (λ r. r .given ≡ false) (refusals words s c)
-  no-rule (layOut n t) ok h =
-      (ap not (all-true (limits n t) (le-leb 1 n (h .slots-low), (le-leb n 255 (h .slots-high), (le-leb 1 t (h .ticks-low), (le-leb t 1000 (h .ticks-high), tt))))),
-      (le-ltb (length words) (10 + 8 * n) (h .fits), tt))
+  no-rule (layOut n t) ok h = (
+    ap not (all-true (limits n t) (le-leb 1 n (h .slots-low), (le-leb n 255 (h .slots-high), (le-leb 1 t (h .ticks-low), (le-leb t 1000 (h .ticks-high), tt))))),
+    (le-ltb (length words) (10 + 8 * n) (h .fits), tt),
+  )
   no-rule (create name) ok h = (ap not ok, (above name (h .0), (above (lowestFree s) (h .1), tt)))
   no-rule (ident name) ok h = (ap not ok, (above name (h .0), (above (lowestNamed s name) (h .1), tt)))
   no-rule (cancel id) ok h = (ap not ok, (is-known id (h .0), (ap not (h .1), tt)))
   no-rule (delete id) ok h = (ap not ok, (is-known id h, tt))
   no-rule (fireAfter id n r u) ok h = (ap not ok, (above n (h .ticks), (above r (h .routine), (is-known id (h .names-one), tt))))
-  no-rule (fireWhen id w r u) ok h =
-      (ap not ok, (ap not (h .running), (above r (h .routine), (ap not (and-both (valid w) (ltb (s .clock .second) (secondsOf w)) (h .is-valid)
-      (lt-ltb (s .clock .second) (secondsOf w) (h .later))), (is-known id (h .names-one), tt)))))
+  no-rule (fireWhen id w r u) ok h = (
+    ap not ok,
+    (
+      ap not (h .running),
+      (
+        above r (h .routine),
+        (
+          ap not (and-both (valid w) (ltb (s .clock .second) (secondsOf w)) (h .is-valid)
+              (lt-ltb (s .clock .second) (secondsOf w) (h .later))),
+          (is-known id (h .names-one), tt),
+        ),
+      ),
+    ),
+  )
   no-rule (fireEvery id n r u) ok h = (ap not ok, (above n (h .ticks), (above r (h .routine), (is-known id (h .names-one), tt))))
   no-rule (reset id) ok h = (ap not ok, (is-known id (h .0), (ap not (h .1), tt)))
   no-rule (ticksLeft id) ok h = (ap not ok, (is-known id h, tt))
@@ -216,9 +228,23 @@ module _ (words : List ℕ) (s : State) where
   no-rule initiateServer ok h = (ap not ok, (h, tt))
   no-rule (serverFireAfter id n r u) ok h =
       (ap not ok, (ap not (h .0), (above n (h .1 .ticks), (above r (h .1 .routine), (is-known id (h .1 .names-one), tt)))))
-  no-rule (serverFireWhen id w r u) ok h =
-      (ap not ok, (ap not (h .0), (ap not (h .1 .running), (above r (h .1 .routine), (ap not (and-both (valid w) (ltb (s .clock .second) (secondsOf w)) (h .1 .is-valid)
-      (lt-ltb (s .clock .second) (secondsOf w) (h .1 .later))), (is-known id (h .1 .names-one), tt))))))
+  no-rule (serverFireWhen id w r u) ok h = (
+    ap not ok,
+    (
+      ap not (h .0),
+      (
+        ap not (h .1 .running),
+        (
+          above r (h .1 .routine),
+          (
+            ap not (and-both (valid w) (ltb (s .clock .second) (secondsOf w)) (h .1 .is-valid)
+                (lt-ltb (s .clock .second) (secondsOf w) (h .1 .later))),
+            (is-known id (h .1 .names-one), tt),
+          ),
+        ),
+      ),
+    ),
+  )
   no-rule (serve list) ok h = (ap not ok, (le-ltb (length list) 3 (h .1), (ap not (h .0), tt)))
 
   pub facts-accepted : (c : Call) → sound words ≡ true → Accepted words s c → firstOf (refusals words s c) ≡ 0
