@@ -25,10 +25,11 @@ returns : tie.Need-returns
 returns c =
     let kind = c .before .before .get in
     let start = c .before .before .before .before .before in
-    let idle = same-stops (kind .result) (sym (c .before .stopped-kind .ensures) ∙ c .if1 .taken) in
-    (stop-idle (start .args .t .now) (start .args .i) (start .pre)
-    (λ k. subst (λ (n : ℕ). waitsIn k n ≡ false) (kind .ensures) (in-none (kindAt (kind .result) .chain) k idle)),
-    sym idle ∙ ap linked (kind .ensures ∙ sym (kind-is (start .args .t .now) (start .args .i) (start .pre))))
+    let idle = same-stops (kind .result) (sym (c .before .stopped-kind .ensures) ∙ c .if1 .taken) in (
+      stop-idle (start .args .t .now) (start .args .i) (start .pre)
+          (λ k. subst (λ (n : ℕ). waitsIn k n ≡ false) (kind .ensures) (in-none (kindAt (kind .result) .chain) k idle)),
+      sym idle ∙ ap linked (kind .ensures ∙ sym (kind-is (start .args .t .now) (start .args .i) (start .pre))),
+    )
 
 chain-in-requires : tie.Need-chain-in-requires
 chain-in-requires c κs =
