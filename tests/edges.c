@@ -670,6 +670,19 @@ static void order_of_cancel(void)
     is("cancel", 0, cancel(two));
 }
 
+/* Of two that are due at the same tick the second has a wait of 0, and waits all the same. */
+static void cancel_of_equals(void)
+{
+    fresh();
+    is("fire after 5", 0, fire_after(one, 5, 7, 70));
+    is("fire after 5", 0, fire_after(two, 5, 8, 80));
+    is("wait of slot 2", 0, table[slot_at(2, SLOT_WAIT)]);
+    is("cancel of the second", 0, cancel(two));
+    cancel_is_refused("cancel of it again", 14, two);
+    is("ticks left of the first", 0, ticks_left(one));
+    is("as before", 5, answer);
+}
+
 /* The ways of a timer to each kind: the calls on it in turn, where a start is for the next tick, which is the next second
  * too. A lay out stands for no call. */
 enum { WAY = 3 };
@@ -827,6 +840,7 @@ int main(void)
     stays_queued();
     server_stops();
     order_of_cancel();
+    cancel_of_equals();
     cancel_of_each_kind();
     never_passed_on();
     printf("edges: %u checks\n", checks);
