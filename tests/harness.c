@@ -448,7 +448,7 @@ static bool by_pair[CALLS][STATUSES][STATUSES];
 static bool taken_by_kind[CALLS][KINDS], refused_by_kind[CALLS][KINDS];    /* with the id of a timer of the kind */
 static uint32_t turns_met[CALLS];
 static bool taken_off[CALLS][KINDS][QUEUE_PLACES];
-static uint64_t cancels_met[KINDS][EVENTS];        /* accepted or refused, by what befell the timer last */
+static bool cancels_met[KINDS][EVENTS];     /* accepted or refused with 14, by what befell the timer last */
 
 /* Serves by the timers queued before and the words of list, where all above the last are the same. */
 enum { QUEUE_LENGTHS = 4, SERVE_LISTS = FIRED_WORDS + 3 };
@@ -472,7 +472,7 @@ static void note(const struct call *c, const struct outcome *outcome, const stru
     if ((kind == TICK || kind == SET_CLOCK) && accepted)
         turns_met[kind] |= oracle_turns(after, outcome);
     if (kind == CANCEL && (accepted || outcome->reason == NOTHING_TO_CANCEL))
-        cancels_met[outcome->timer_kind][outcome->last_event]++;
+        cancels_met[outcome->timer_kind][outcome->last_event] = true;
     if (kind == SERVE)
         note_serve(c, outcome);
     else if (accepted)
@@ -595,8 +595,8 @@ unsigned cancels_not_met(void)
     unsigned missing = 0;
     for (int event = 0; event < EVENTS; event++)
         for (uint32_t timer = 0; timer < KINDS; timer++)
-            if (oracle_kind_after((enum event)event, timer) && cancels_met[timer][event] == 0) {
-                printf("  not met: cancel of a timer of kind %" PRIu32 " that was %s last\n", timer, event_texts[event]);
+            if (oracle_kind_after((enum event)event, timer) && !cancels_met[timer][event]) {
+                printf("  not met: cancel of a timer of kind %" PRIu32 ", last %s\n", timer, event_texts[event]);
                 missing++;
             }
     return missing;

@@ -276,7 +276,7 @@ static void expect_timer(uint32_t id)
         fail("expected a refusal, since the id names no timer, came status 0");
 }
 
-/* A start of that timer has not ended, or has it queued. */
+/* A start of that timer has not ended, or it is queued. */
 static bool waits_or_is_queued(uint32_t id)
 {
     for (uint32_t i = 0; i < waiting_count; i++)

@@ -1018,8 +1018,8 @@ static int place_in_order(enum call_kind kind, uint32_t status)
     return -1;
 }
 
-/* On a table that is not sound there is no telling whether a slot is free or of which kind a timer is; and an id that names
- * no timer has no kind that reset refuses. */
+/* On a table that is not sound there is no telling whether a slot is free or whether reset would refuse a timer's kind; and
+ * an id that names no timer has no such kind. */
 bool oracle_pair_possible(enum call_kind kind, uint32_t first, uint32_t second)
 {
     int first_place = place_in_order(kind, first), second_place = place_in_order(kind, second);
