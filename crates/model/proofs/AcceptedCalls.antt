@@ -201,7 +201,7 @@ module _ (words : List ℕ) (s : State) where
       (le-ltb (length words) (10 + 8 * n) (h .fits), tt))
   no-rule (create name) ok h = (ap not ok, (above name (h .0), (above (lowestFree s) (h .1), tt)))
   no-rule (ident name) ok h = (ap not ok, (above name (h .0), (above (lowestNamed s name) (h .1), tt)))
-  no-rule (cancel id) ok h = (ap not ok, (is-known id h, tt))
+  no-rule (cancel id) ok h = (ap not ok, (is-known id (h .0), (ap not (h .1), tt)))
   no-rule (delete id) ok h = (ap not ok, (is-known id h, tt))
   no-rule (fireAfter id n r u) ok h = (ap not ok, (above n (h .ticks), (above r (h .routine), (is-known id (h .names-one), tt))))
   no-rule (fireWhen id w r u) ok h =
