@@ -275,14 +275,14 @@ static void date_of(uint32_t seconds, struct hc_wall_time *time)
     time->second = rest % MINUTE;
 }
 
-/* A waiting or queued timer becomes idle of its kind and leaves its chain; any other stays. In the queue the wait that the
- * follower takes over is 0. */
-ALWAYS_INLINE void stop(uint32_t *table, uint32_t index)
+/* A waiting or queued timer becomes idle of its kind and leaves its chain; any other stays, and that is false. In the queue
+ * the wait that the follower takes over is 0. */
+ALWAYS_INLINE bool stop(uint32_t *table, uint32_t index)
 {
     uint32_t *s = slot(table, index);
     uint32_t chain = chain_of[s[KIND]];
     if (chain == 0)
-        return;
+        return false;
     uint32_t next = s[NEXT], previous = s[PREVIOUS];
     uint32_t *link = &table[chain];
     if (previous)
@@ -297,6 +297,7 @@ ALWAYS_INLINE void stop(uint32_t *table, uint32_t index)
     s[WAIT] = 0;
     s[NEXT] = 0;
     s[PREVIOUS] = 0;
+    return true;
 }
 
 static inline void link_between(uint32_t *table, uint32_t first, uint32_t previous, uint32_t index, uint32_t next)
@@ -476,7 +477,8 @@ uint32_t CALL(cancel)(uint32_t *table, size_t words, uint32_t id)
     uint32_t index = named(table, id);
     if (index == 0)
         return HC_INVALID_ID;
-    stop(table, index);
+    if (!stop(table, index))
+        return HC_INCORRECT_STATE;
     return HC_SUCCESSFUL;
 }
 

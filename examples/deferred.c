@@ -84,7 +84,8 @@ static bool task(void)
 }
 
 /* Guards started before there is a server are refused. Four are queued before the task gets to run; one of their macros is
- * done by then, and a cancel takes its guard off the queue again. */
+ * done by then, and a cancel takes its guard off the queue again. Another is done when the task has run: its guard was handed
+ * out, there is nothing to cancel, and the status says so. */
 int main(void)
 {
     if (refused("lay out", hc_lay_out(table, WORDS, SLOTS, TICKS_PER_SECOND)) || !create_guards() || !start_lamp())
@@ -100,5 +101,8 @@ int main(void)
     puts("macro 1 is done, before it is stopped");
     if (refused("cancel", hc_cancel(table, WORDS, guards[0])))
         return 1;
-    return task() ? 0 : 1;
+    if (!task())
+        return 1;
+    printf("macro 2 is done, after it was stopped: ");
+    return refused("cancel", hc_cancel(table, WORDS, guards[1])) ? 0 : 1;
 }

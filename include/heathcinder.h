@@ -73,7 +73,8 @@ extern "C" {
 #define HC_NOT_DEFINED 11u     /* fire when, server fire when, get clock: clock not set; reset: not last started by
                                   interval */
 #define HC_UNSATISFIED 13u     /* plan check: the plan does not fit; plan: no plan does */
-#define HC_INCORRECT_STATE 14u /* initiate server: it is initiated; server fire after, server fire when, serve: it is not */
+#define HC_INCORRECT_STATE 14u /* initiate server: it is initiated; server fire after, server fire when, serve: it is not;
+                                  cancel: the timer neither waits nor is queued */
 #define HC_INVALID_CLOCK 20u   /* set clock, fire when, server fire when: date not valid; the last two: not after the
                                   present second */
 #define HC_NOT_SOUND 100u      /* any call on a table but lay out: it is not sound */
@@ -108,8 +109,9 @@ uint32_t hc_create(uint32_t *table, size_t words, uint32_t name, uint32_t *id);
  * HC_INVALID_NAME: name 0, or no such name. */
 uint32_t hc_ident(const uint32_t *table, size_t words, uint32_t name, uint32_t *id);
 
-/* Stops a waiting timer, or takes a queued one off the queue; any other stays as it is, and that is no refusal.
- * HC_INVALID_ID: the id names no timer. */
+/* Stops a waiting timer, or takes a queued one off the queue. A periodic timer that fired still waits.
+ * HC_INVALID_ID: the id names no timer. HC_INCORRECT_STATE: the timer neither waits nor is queued; it fired already, was
+ * cancelled, was handed out or never started, and nothing changes. */
 uint32_t hc_cancel(uint32_t *table, size_t words, uint32_t id);
 
 /* Stops the timer if it waits, takes it off the queue if it is queued, and frees its slot. Once the slot is taken again,

@@ -176,7 +176,7 @@ static void cancels(void)
     is("reset of a timer never started", 11, reset(one));
     is("fire after", 0, fire_after(one, 5, 7, 70));
     is("cancel", 0, cancel(one));
-    is("cancel again", 0, cancel(one));
+    is("cancel again", 14, cancel(one));
     is("reset after cancel", 0, reset(one));
     is("ticks left", 0, ticks_left(one));
     is("it waits again", 5, answer);
@@ -594,10 +594,11 @@ static void stays_queued(void)
     is("initiate again", 14, initiate_server());
     queue_is(one, two, three);
     hands_out(one, 7, 70);
-    is("cancel", 0, cancel(one));
+    is("cancel of one that was handed out", 14, cancel(one));
     is("it is idle still", KIND_IDLE_SERVER_TICKING, kind(1));
+    queue_is(two, three, 0);
     hands_out(two, 8, 80);
-    is("cancel", 0, cancel(two));
+    is("cancel of one that was handed out", 14, cancel(two));
     is("it is idle still", KIND_IDLE_SERVER_DATED, kind(2));
     is("cancel of one that is queued", 0, cancel(three));
     hands_out(0, 0, 0);
@@ -630,6 +631,147 @@ static void server_stops(void)
     is("reset", 0, reset(one));
     fires(one, 0, 0);
     hands_out(0, 0, 0);
+}
+
+/* ---- Nothing to cancel ---- */
+
+/* A cancel is refused with this status, and no word changes. */
+static void cancel_is_refused(const char *what, uint32_t status, uint32_t id)
+{
+    uint32_t before[WORDS];
+    memcpy(before, table, sizeof before);
+    is(what, status, cancel(id));
+    for (uint32_t i = 0; i < WORDS; i++)
+        is("word of the table after a refused cancel", before[i], table[i]);
+}
+
+/* 100 comes first, then 4, then 14. */
+static void order_of_cancel(void)
+{
+    fresh();
+    cancel_is_refused("cancel, never started", 14, one);
+    cancel_is_refused("cancel, a free slot", 4, three);
+    cancel_is_refused("cancel, index 0", 4, ID_BASE);
+    cancel_is_refused("cancel, index N + 1", 4, ID_BASE + SLOTS + 1);
+    is("fire after", 0, fire_after(one, 5, 7, 70));
+    is("delete", 0, delete(one));
+    cancel_is_refused("cancel, deleted", 4, one);
+    is("create in its slot", 0, create(1));
+    cancel_is_refused("cancel, the new timer never started", 14, one);
+    is("fire after", 0, fire_after(two, 5, 8, 80));
+    table[HEADER_ZERO] = 1;
+    cancel_is_refused("cancel, not sound, never started", 100, one);
+    cancel_is_refused("cancel, not sound, waiting", 100, two);
+    cancel_is_refused("cancel, not sound, a free slot", 100, three);
+    table[HEADER_ZERO] = 0;
+    words = WORDS - 1;
+    cancel_is_refused("cancel, a word too few, never started", 100, one);
+    words = WORDS;
+    is("cancel", 0, cancel(two));
+}
+
+/* Of two that are due at the same tick the second has a wait of 0, and waits all the same. */
+static void cancel_of_equals(void)
+{
+    fresh();
+    is("fire after 5", 0, fire_after(one, 5, 7, 70));
+    is("fire after 5", 0, fire_after(two, 5, 8, 80));
+    is("wait of slot 2", 0, table[slot_at(2, SLOT_WAIT)]);
+    is("cancel of the second", 0, cancel(two));
+    cancel_is_refused("cancel of it again", 14, two);
+    is("ticks left of the first", 0, ticks_left(one));
+    is("as before", 5, answer);
+}
+
+/* The ways of a timer to each kind: the calls on it in turn, where a start is for the next tick, which is the next second
+ * too. A lay out stands for no call. */
+enum { WAY = 3 };
+static const struct way {
+    uint32_t kind;
+    enum call_kind calls[WAY];
+} ways[] = {
+    {KIND_NEVER_STARTED, {LAY_OUT}},
+    {KIND_IDLE_TICKING, {FIRE_AFTER, TICK}}, {KIND_IDLE_TICKING, {FIRE_AFTER, CANCEL}},
+    {KIND_IDLE_DATED, {FIRE_WHEN, TICK}}, {KIND_IDLE_DATED, {FIRE_WHEN, SET_CLOCK}}, {KIND_IDLE_DATED, {FIRE_WHEN, CANCEL}},
+    {KIND_TICKING, {FIRE_AFTER}}, {KIND_TICKING, {FIRE_AFTER, TICK, RESET}}, {KIND_DATED, {FIRE_WHEN}},
+    {KIND_PERIODIC, {FIRE_EVERY}}, {KIND_PERIODIC, {FIRE_EVERY, TICK, TICK}},
+    {KIND_IDLE_PERIODIC, {FIRE_EVERY, CANCEL}}, {KIND_IDLE_PERIODIC, {FIRE_EVERY, TICK, CANCEL}},
+    {KIND_IDLE_SERVER_TICKING, {SERVER_FIRE_AFTER, CANCEL}}, {KIND_IDLE_SERVER_TICKING, {SERVER_FIRE_AFTER, TICK, CANCEL}},
+    {KIND_IDLE_SERVER_TICKING, {SERVER_FIRE_AFTER, TICK, SERVE}},
+    {KIND_IDLE_SERVER_DATED, {SERVER_FIRE_WHEN, CANCEL}}, {KIND_IDLE_SERVER_DATED, {SERVER_FIRE_WHEN, TICK, CANCEL}},
+    {KIND_IDLE_SERVER_DATED, {SERVER_FIRE_WHEN, TICK, SERVE}},
+    {KIND_SERVER_TICKING, {SERVER_FIRE_AFTER}}, {KIND_SERVER_DATED, {SERVER_FIRE_WHEN}},
+    {KIND_QUEUED_TICKING, {SERVER_FIRE_AFTER, TICK}}, {KIND_QUEUED_DATED, {SERVER_FIRE_WHEN, TICK}},
+    {KIND_QUEUED_DATED, {SERVER_FIRE_WHEN, SET_CLOCK}}};
+enum { WAYS = sizeof ways / sizeof *ways };
+
+/* What a cancel leaves of each kind; 0 where there is nothing to cancel. */
+static const uint32_t cancelled[KINDS] = {
+    [KIND_TICKING] = KIND_IDLE_TICKING, [KIND_DATED] = KIND_IDLE_DATED, [KIND_PERIODIC] = KIND_IDLE_PERIODIC,
+    [KIND_SERVER_TICKING] = KIND_IDLE_SERVER_TICKING, [KIND_SERVER_DATED] = KIND_IDLE_SERVER_DATED,
+    [KIND_QUEUED_TICKING] = KIND_IDLE_SERVER_TICKING, [KIND_QUEUED_DATED] = KIND_IDLE_SERVER_DATED};
+
+/* Makes the call on the first timer, for one tick or that second. */
+static uint32_t call_on_first(enum call_kind call, uint32_t second)
+{
+    return make((struct call){.kind = call, .id = one, .ticks = 1, .time = at(2000, 1, 1, 0, 0, second), .routine = 7,
+                              .data = 70});
+}
+
+/* A table whose first timer has come this way, and whose second waits. */
+static void come(const struct way *way)
+{
+    is("lay out", 0, lay_out(SLOTS, 1));
+    is("create", 0, create(1));
+    is("create", 0, create(2));
+    is("initiate", 0, initiate_server());
+    is("set clock", 0, set_clock(at(2000, 1, 1, 0, 0, 0)));
+    is("fire after 9", 0, fire_after(two, 9, 8, 80));
+    for (int i = 0; i < WAY && way->calls[i] != LAY_OUT; i++)
+        is("call on the way to a kind", 0, call_on_first(way->calls[i], 1));
+    is("kind at the end of its way", way->kind, kind(1));
+}
+
+/* Where there is something to cancel it is 0, then 14; elsewhere 14. */
+static void cancel_of_each_kind(void)
+{
+    for (int i = 0; i < WAYS; i++) {
+        uint32_t left = cancelled[ways[i].kind];
+        come(&ways[i]);
+        if (left != 0) {
+            is("cancel of a timer that waits or is queued", 0, cancel(one));
+            is("it is idle", left, kind(1));
+        }
+        cancel_is_refused("cancel of a timer that neither waits nor is queued", 14, one);
+        cancel_is_refused("cancel of it again", 14, one);
+    }
+}
+
+/* What a call leaves of a timer where there is nothing to cancel; its own kind where it is a reset that is refused. */
+static uint32_t left_of_idle(enum call_kind call, uint32_t idle)
+{
+    static const uint32_t left[CALLS] = {
+        [DELETE] = KIND_FREE, [FIRE_AFTER] = KIND_TICKING, [FIRE_WHEN] = KIND_DATED, [FIRE_EVERY] = KIND_PERIODIC,
+        [SERVER_FIRE_AFTER] = KIND_SERVER_TICKING, [SERVER_FIRE_WHEN] = KIND_SERVER_DATED};
+    static const uint32_t restarted[KINDS] = {
+        [KIND_NEVER_STARTED] = KIND_NEVER_STARTED, [KIND_IDLE_TICKING] = KIND_TICKING, [KIND_IDLE_DATED] = KIND_IDLE_DATED,
+        [KIND_IDLE_PERIODIC] = KIND_PERIODIC, [KIND_IDLE_SERVER_TICKING] = KIND_SERVER_TICKING,
+        [KIND_IDLE_SERVER_DATED] = KIND_IDLE_SERVER_DATED};
+    return call == RESET ? restarted[idle] : left[call];
+}
+
+/* Delete, the starts and reset do not pass the 14 on. */
+static void never_passed_on(void)
+{
+    static const enum call_kind calls[] = {DELETE, FIRE_AFTER, FIRE_WHEN, FIRE_EVERY, RESET, SERVER_FIRE_AFTER,
+                                           SERVER_FIRE_WHEN};
+    for (int i = 0; i < WAYS; i++)
+        for (size_t k = 0; k < sizeof calls / sizeof *calls && cancelled[ways[i].kind] == 0; k++) {
+            uint32_t left = left_of_idle(calls[k], ways[i].kind);
+            come(&ways[i]);
+            is(call_names[calls[k]], left == ways[i].kind ? 11 : 0, call_on_first(calls[k], 30));
+            is("kind that it leaves", left, kind(1));
+        }
 }
 
 static void single_slot(void)
@@ -697,6 +839,10 @@ int main(void)
     taken_off();
     stays_queued();
     server_stops();
+    order_of_cancel();
+    cancel_of_equals();
+    cancel_of_each_kind();
+    never_passed_on();
     printf("edges: %u checks\n", checks);
     return 0;
 }

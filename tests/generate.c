@@ -93,6 +93,24 @@ static uint32_t random_id(const struct oracle *o)
     }
 }
 
+/* It was started, and neither waits nor is queued any more. */
+static bool idle(const struct oracle *o, uint32_t index)
+{
+    for (uint32_t i = 0; i < o->queued; i++)
+        if (o->queue[i] == index)
+            return false;
+    return o->timer[index].started != NEVER && !o->timer[index].waiting;
+}
+
+/* Of an idle timer, if a few tries find one. */
+static uint32_t random_idle_id(const struct oracle *o)
+{
+    uint32_t index = 1 + below(o->slots);
+    for (int tries = 0; tries < 16 && !idle(o, index); tries++)
+        index = 1 + below(o->slots);
+    return idle(o, index) ? ID_BASE + index : random_id(o);
+}
+
 static uint32_t random_name(void)
 {
     if (one_in(10))
@@ -227,7 +245,7 @@ static size_t random_serve_list_length(void)
 static enum call_kind random_kind(const struct oracle *o)
 {
     static const uint32_t weights[CALLS] = {
-        [CREATE] = 7, [IDENT] = 3, [CANCEL] = 4, [DELETE] = 4, [FIRE_AFTER] = 5, [FIRE_WHEN] = 6, [FIRE_EVERY] = 5,
+        [CREATE] = 7, [IDENT] = 3, [CANCEL] = 6, [DELETE] = 4, [FIRE_AFTER] = 5, [FIRE_WHEN] = 6, [FIRE_EVERY] = 5,
         [RESET] = 4, [TICKS_LEFT] = 3, [TICK] = 10, [SET_CLOCK] = 3, [GET_CLOCK] = 3, [INITIATE_SERVER] = 1,
         [SERVER_FIRE_AFTER] = 7, [SERVER_FIRE_WHEN] = 9, [SERVE] = 8};
     enum call_kind kind = weighted_call(weights);
@@ -246,7 +264,7 @@ void random_call(const struct oracle *o, struct call *c)
     c->kind = random_kind(o);
     c->fired_words = c->kind == SERVE ? random_serve_list_length() : random_list_length(o->slots);
     c->name = random_name();
-    c->id = random_id(o);
+    c->id = c->kind == CANCEL && one_in(3) ? random_idle_id(o) : random_id(o);
     c->ticks = random_ticks(o);
     c->routine = one_in(8) ? random_number() : 1 + below(9);
     c->data = one_in(3) ? random_number() : below(100);

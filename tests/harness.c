@@ -448,6 +448,7 @@ static bool by_pair[CALLS][STATUSES][STATUSES];
 static bool taken_by_kind[CALLS][KINDS], refused_by_kind[CALLS][KINDS];    /* with the id of a timer of the kind */
 static uint32_t turns_met[CALLS];
 static bool taken_off[CALLS][KINDS][QUEUE_PLACES];
+static bool cancels_met[KINDS][EVENTS];     /* accepted or refused with 14, by what befell the timer last */
 
 /* Serves by the timers queued before and the words of list, where all above the last are the same. */
 enum { QUEUE_LENGTHS = 4, SERVE_LISTS = FIRED_WORDS + 3 };
@@ -470,6 +471,8 @@ static void note(const struct call *c, const struct outcome *outcome, const stru
     (accepted ? taken_by_kind : refused_by_kind)[kind][outcome->timer_kind] = true;
     if ((kind == TICK || kind == SET_CLOCK) && accepted)
         turns_met[kind] |= oracle_turns(after, outcome);
+    if (kind == CANCEL && (accepted || outcome->reason == NOTHING_TO_CANCEL))
+        cancels_met[outcome->timer_kind][outcome->last_event] = true;
     if (kind == SERVE)
         note_serve(c, outcome);
     else if (accepted)
@@ -584,6 +587,18 @@ unsigned queue_not_met(void)
     for (int kind = 0; kind < CALLS; kind++)
         for (uint32_t timer = 0; timer < KINDS; timer++)
             missing += places_not_met((enum call_kind)kind, timer);
+    return missing;
+}
+
+unsigned cancels_not_met(void)
+{
+    unsigned missing = 0;
+    for (int event = 0; event < EVENTS; event++)
+        for (uint32_t timer = 0; timer < KINDS; timer++)
+            if (oracle_kind_after((enum event)event, timer) && !cancels_met[timer][event]) {
+                printf("  not met: cancel of a timer of kind %" PRIu32 ", last %s\n", timer, event_texts[event]);
+                missing++;
+            }
     return missing;
 }
 

@@ -73,10 +73,11 @@ void report_met(void);
 
 /* Each prints the cases that were not met and gives their number: statuses of each call, and where two apply; calls with the
  * id of a timer of each kind; so many of the turns that a tick or set clock may take; timers taken off the queue by each call
- * at each place, and serves of each queue with each list. */
+ * at each place, and serves of each queue with each list; cancels of timers by what befell them last. */
 unsigned statuses_not_met(void);
 unsigned kinds_not_met(void);
 unsigned turns_not_met(int turns);
 unsigned queue_not_met(void);
+unsigned cancels_not_met(void);
 
 #endif

@@ -1,7 +1,7 @@
-/* Histories: what must fire, be queued and be handed out is kept from the calls and their statuses alone, as absolute ticks
- * and dates and numbers of serves, in the words of the specification's claim about whole lists of calls; the calendar is the
- * C library's. No table is looked at, but for that claim's last sentence: the chains give the waiting timers in firing order
- * by next, and in reverse by previous; and so does the queue those that are queued.
+/* Histories: what must fire, be queued and be handed out, and what there is to cancel, is kept from the calls and their
+ * statuses alone, as absolute ticks and dates and numbers of serves, in the words of the specification's claim about whole
+ * lists of calls; the calendar is the C library's. No table is looked at, but for that claim's last sentence: the chains give
+ * the waiting timers in firing order by next, and in reverse by previous; and so does the queue those that are queued.
  * Arguments: seed, number of calls. */
 #include "harness.h"
 #include "libc_calendar.h"
@@ -26,6 +26,10 @@ static uint32_t waiting_count;
 static struct start last[MAX_SLOTS + 1];
 static bool exists[MAX_SLOTS + 1];      /* from its create to its delete or a lay out */
 
+/* How the last start of each timer ended, if it has: why there is nothing to cancel. */
+enum ending { NEVER_BEGUN, BY_FIRING, BY_CANCEL, BY_SERVE, ENDINGS };
+static enum ending ending[MAX_SLOTS + 1];
+
 static uint64_t ticks, clock_ticks;     /* accepted ticks since lay out; the clock, counted in ticks */
 static bool clock_set;
 static uint32_t slots, ticks_per_second;
@@ -35,7 +39,7 @@ static uint32_t slots, ticks_per_second;
 static uint64_t serves, handed_by[MAX_SLOTS + 1];
 static bool initiated, sooner[MAX_SLOTS + 1];
 
-static uint64_t calls, fired_in_all, fired_again, served_in_all, served_sooner, accepted[CALLS];
+static uint64_t calls, fired_in_all, fired_again, served_in_all, served_sooner, accepted[CALLS], nothing_after[ENDINGS];
 static uint32_t span;
 static bool with_server;                /* whether it is to be initiated */
 
@@ -120,6 +124,7 @@ static void enter(uint32_t *list, uint32_t k, const struct start *s)
 /* It is due: it fires, or is queued. */
 static void take_due(const struct start *s, uint32_t *list, uint32_t *count)
 {
+    ending[s->id - ID_BASE] = BY_FIRING;
     if (s->server)
         enqueue(s->id);
     else
@@ -230,7 +235,7 @@ static uint32_t after_serve(uint32_t *list)
     for (uint32_t i = 1; i <= slots; i++)
         if (handed_by[i] == serves) {
             enter(list, 0, &last[i]);
-            handed_by[i] = 0;
+            handed_by[i] = 0, ending[i] = BY_SERVE;
             served_in_all++, served_sooner += sooner[i];
             return 1;
         }
@@ -260,10 +265,45 @@ static void expect_clock(const struct came *came)
         fail("expected %s, came %s", wanted, given);
 }
 
+static bool names_timer(uint32_t id)
+{
+    return id > ID_BASE && id - ID_BASE <= slots && exists[id - ID_BASE];
+}
+
 static void expect_timer(uint32_t id)
 {
-    if (id <= ID_BASE || id - ID_BASE > slots || !exists[id - ID_BASE])
+    if (!names_timer(id))
         fail("expected a refusal, since the id names no timer, came status 0");
+}
+
+/* A start of that timer has not ended, or it is queued. */
+static bool waits_or_is_queued(uint32_t id)
+{
+    for (uint32_t i = 0; i < waiting_count; i++)
+        if (waiting[i].id == id)
+            return true;
+    return handed_by[id - ID_BASE] != 0;
+}
+
+/* Whether a cancel is accepted is known from the calls before it. */
+static void expect_cancel(uint32_t id, uint32_t status)
+{
+    uint32_t expected = HC_SUCCESSFUL;
+    if (!names_timer(id))
+        expected = HC_INVALID_ID;
+    else if (!waits_or_is_queued(id))
+        expected = HC_INCORRECT_STATE;
+    if (status != expected)
+        fail("expected status %" PRIu32 " by the calls before, came %" PRIu32, expected, status);
+    if (status == HC_INCORRECT_STATE)
+        nothing_after[ending[id - ID_BASE]]++;
+}
+
+/* The other calls give 14 for the server alone: where it is initiated, or where it is not. */
+static void expect_server_refusal(enum call_kind kind)
+{
+    if (kind < INITIATE_SERVER || initiated != (kind == INITIATE_SERVER))
+        fail("expected another status, came 14");
 }
 
 static void expect_initiated(bool wanted)
@@ -276,7 +316,7 @@ static void after_create(uint32_t id)
 {
     if (id <= ID_BASE || id - ID_BASE > slots || exists[id - ID_BASE])
         fail("expected the id of a free slot, came 0x%" PRIx32, id);
-    exists[id - ID_BASE] = true;
+    exists[id - ID_BASE] = true, ending[id - ID_BASE] = NEVER_BEGUN;
     last[id - ID_BASE] = (struct start){.id = id};
 }
 
@@ -320,6 +360,7 @@ static void learn(const struct call *c, const struct came *came, const uint32_t 
         break;
     case CANCEL:
         stop(c->id);
+        ending[c->id - ID_BASE] = BY_CANCEL;
         break;
     case DELETE:
         stop(c->id);
@@ -471,6 +512,10 @@ static void make(struct call *c, uint32_t *table)
         list[i] = list_before[i] = (uint32_t)(calls + i);
     place.call = c, place.number++, calls++;
     perform(c, table, list, &came);
+    if (c->kind == CANCEL)
+        expect_cancel(c->id, came.status);
+    else if (came.status == HC_INCORRECT_STATE)
+        expect_server_refusal(c->kind);
     if (came.status != 0) {
         if (memcmp(list, list_before, c->fired_words * sizeof *list) != 0)
             fail("status %" PRIu32 ": expected the list to stay, came a change", came.status);
@@ -481,6 +526,30 @@ static void make(struct call *c, uint32_t *table)
     expect_waiting(false, table);
     expect_waiting(true, table);
     expect_queue(table);
+}
+
+/* Tells what was met; what could be and was not is a failure. */
+static void report(uint64_t seed)
+{
+    printf("histories: seed %" PRIu64 ", %" PRIu64 " calls in %" PRIu64 " lists, %" PRIu64 " timers fired, %" PRIu64
+           " of them periodic ones again, %" PRIu64 " served, %" PRIu64 " of them sooner for others taken off\n ",
+           seed, calls, place.table, fired_in_all, fired_again, served_in_all, served_sooner);
+    for (int i = 0; i < CALLS; i++)
+        printf(" %s %" PRIu64, call_names[i], accepted[i]);
+    puts(" accepted");
+    printf("  nothing to cancel: never started %" PRIu64 ", fired %" PRIu64 ", cancelled %" PRIu64 ", served %" PRIu64 "\n",
+           nothing_after[NEVER_BEGUN], nothing_after[BY_FIRING], nothing_after[BY_CANCEL], nothing_after[BY_SERVE]);
+    place.call = NULL, place.table = 0;
+    for (int i = 0; i < CALLS; i++)
+        if (accepted[i] == 0)
+            fail("expected %s to be accepted at times, came only refusals", call_names[i]);
+    for (int i = 0; i < ENDINGS; i++)
+        if (nothing_after[i] == 0)
+            fail("expected cancels of timers never started, fired, cancelled and served, came none of one sort");
+    if (fired_again == 0)
+        fail("expected periodic timers to fire again, came none");
+    if (served_sooner == 0 || served_sooner == served_in_all)
+        fail("expected timers to be served, some of them sooner for others taken off, came none or no others");
 }
 
 int main(int count, char **arguments)
@@ -504,19 +573,6 @@ int main(int count, char **arguments)
             make(&c, table);
         }
     }
-    printf("histories: seed %" PRIu64 ", %" PRIu64 " calls in %" PRIu64 " lists, %" PRIu64 " timers fired, %" PRIu64
-           " of them periodic ones again, %" PRIu64 " served, %" PRIu64 " of them sooner for others taken off\n ",
-           seed, calls, place.table, fired_in_all, fired_again, served_in_all, served_sooner);
-    for (int i = 0; i < CALLS; i++)
-        printf(" %s %" PRIu64, call_names[i], accepted[i]);
-    puts(" accepted");
-    place.call = NULL, place.table = 0;
-    for (int i = 0; i < CALLS; i++)
-        if (accepted[i] == 0)
-            fail("expected %s to be accepted at times, came only refusals", call_names[i]);
-    if (fired_again == 0)
-        fail("expected periodic timers to fire again, came none");
-    if (served_sooner == 0 || served_sooner == served_in_all)
-        fail("expected timers to be served, some of them sooner for others taken off, came none or no others");
+    report(seed);
     return 0;
 }

@@ -1,6 +1,6 @@
 /* libuv's timers on a clock of our own, one millisecond a tick, as a second timer list for interval timers, periodic ones as
  * libuv's repeating ones: the same timers must fire, in the same order among equals, each with routine and data of its last
- * start, and as many ticks must be left.
+ * start, as many ticks must be left, and only the timers that libuv calls active can be cancelled.
  * Arguments: seed, number of calls. */
 #define _DEFAULT_SOURCE
 #include "harness.h"
@@ -36,7 +36,7 @@ static struct {
     bool periodic;
 } last_start[SLOTS + 1];
 static uint32_t fired[SLOTS], fired_count;
-static uint64_t calls, fires, periodic_fires;
+static uint64_t calls, fires, periodic_fires, cancels, idle_cancels;
 
 static void note_fired(uv_timer_t *timer)
 {
@@ -75,12 +75,26 @@ static void start(struct call *c, uint32_t index)
     uv_must(uv_timer_start(&timers[index], note_fired, ticks, again));
 }
 
+static bool active(uint32_t index)
+{
+    return uv_is_active((uv_handle_t *)&timers[index]);
+}
+
+/* libuv stops an idle timer too, and does not say so. */
+static void cancel(struct call *c, uint32_t index)
+{
+    struct came came;
+    make(c, active(index) ? HC_SUCCESSFUL : HC_INCORRECT_STATE, &came);
+    cancels++, idle_cancels += !active(index);
+    uv_must(uv_timer_stop(&timers[index]));
+}
+
 static void expect_left(uint32_t index)
 {
     struct came came;
     struct call c = {.kind = TICKS_LEFT, .id = ID_BASE + index};
     make(&c, 0, &came);
-    uint64_t left = uv_is_active((uv_handle_t *)&timers[index]) ? uv_timer_get_due_in(&timers[index]) : 0;
+    uint64_t left = active(index) ? uv_timer_get_due_in(&timers[index]) : 0;
     if (came.answer != left)
         fail("expected %" PRIu64 " ticks left as libuv says, came %" PRIu32, left, came.answer);
 }
@@ -139,8 +153,7 @@ static void one_call(void)
         break;
     case 5:
         c.kind = CANCEL;
-        make(&c, 0, &came);
-        uv_must(uv_timer_stop(&timers[index]));
+        cancel(&c, index);
         break;
     case 6:
         expect_left(index);
@@ -169,9 +182,12 @@ int main(int count, char **arguments)
     }
     while (calls < wanted)
         one_call();
-    printf("libuv %s: seed %" PRIu64 ", %" PRIu64 " calls, %" PRIu64 " timers fired, %" PRIu64 " of them periodic\n",
-           uv_version_string(), seed, calls, fires, periodic_fires);
+    printf("libuv %s: seed %" PRIu64 ", %" PRIu64 " calls, %" PRIu64 " timers fired, %" PRIu64 " of them periodic; %" PRIu64
+           " cancels, %" PRIu64 " of them of idle timers\n",
+           uv_version_string(), seed, calls, fires, periodic_fires, cancels, idle_cancels);
     if (periodic_fires == 0 || periodic_fires == fires)
         fail("expected timers to fire, periodic ones and others, came none of one sort");
+    if (idle_cancels == 0 || idle_cancels == cancels)
+        fail("expected cancels of active timers and of idle ones, came none of one sort");
     return 0;
 }

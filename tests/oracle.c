@@ -11,7 +11,7 @@ const char *const call_names[CALLS] = {"lay_out", "create", "ident", "cancel", "
 const char *const reason_texts[REASONS] = {
     [ACCEPTED] = "accepted", [TABLE_NOT_SOUND] = "table not sound", [LIST_SHORT] = "list shorter than 3N words",
     [SERVED_SHORT] = "list shorter than 3 words", [INITIATED_ALREADY] = "server initiated already",
-    [NOT_INITIATED] = "server not initiated",
+    [NOT_INITIATED] = "server not initiated", [NOTHING_TO_CANCEL] = "neither waiting nor queued",
     [SLOTS_BELOW] = "no slots", [SLOTS_ABOVE] = "too many slots", [TPS_BELOW] = "no ticks in a second",
     [TPS_ABOVE] = "too many ticks in a second", [WORDS_SHORT] = "fewer than 10 + 8N words", [NAME_ZERO] = "name 0",
     [NAME_UNKNOWN] = "no such name", [NONE_FREE] = "no slot is free", [ID_BELOW] = "id below the first",
@@ -24,9 +24,9 @@ const char *const reason_texts[REASONS] = {
 
 const uint32_t reason_statuses[REASONS] = {
     [TABLE_NOT_SOUND] = 100, [LIST_SHORT] = 101, [SERVED_SHORT] = 101, [INITIATED_ALREADY] = 14, [NOT_INITIATED] = 14,
-    [SLOTS_BELOW] = 10, [SLOTS_ABOVE] = 10, [TPS_BELOW] = 10, [TPS_ABOVE] = 10, [WORDS_SHORT] = 8, [NAME_ZERO] = 3,
-    [NAME_UNKNOWN] = 3, [NONE_FREE] = 5, [ID_BELOW] = 4, [ID_ABOVE] = 4, [ID_FREE] = 4, [TICKS_ZERO] = 10,
-    [ROUTINE_ZERO] = 9, [CLOCK_UNSET] = 11, [BAD_YEAR] = 20, [BAD_MONTH] = 20, [BAD_DAY] = 20,
+    [NOTHING_TO_CANCEL] = 14, [SLOTS_BELOW] = 10, [SLOTS_ABOVE] = 10, [TPS_BELOW] = 10, [TPS_ABOVE] = 10,
+    [WORDS_SHORT] = 8, [NAME_ZERO] = 3, [NAME_UNKNOWN] = 3, [NONE_FREE] = 5, [ID_BELOW] = 4, [ID_ABOVE] = 4, [ID_FREE] = 4,
+    [TICKS_ZERO] = 10, [ROUTINE_ZERO] = 9, [CLOCK_UNSET] = 11, [BAD_YEAR] = 20, [BAD_MONTH] = 20, [BAD_DAY] = 20,
     [BAD_HOUR] = 20, [BAD_MINUTE] = 20, [BAD_SECOND] = 20, [DATE_NOT_AFTER] = 20,
     [NEVER_STARTED_YET] = 11, [IDLE_BY_DATE] = 11, [WAITS_FOR_DATE] = 11, [IDLE_SERVER_BY_DATE] = 11,
     [SERVER_WAITS_FOR_DATE] = 11, [QUEUED_BY_DATE] = 11};
@@ -34,6 +34,10 @@ const uint32_t reason_statuses[REASONS] = {
 const char *const queue_place_texts[QUEUE_PLACES] = {
     [NOT_QUEUED] = "not queued", [QUEUED_ALONE] = "queued alone", [QUEUED_FIRST] = "queued ahead of others",
     [QUEUED_BETWEEN] = "queued between others", [QUEUED_LAST] = "queued behind others"};
+
+const char *const event_texts[EVENTS] = {
+    [CREATED] = "created", [STARTED] = "started", [FIRED] = "fired", [QUEUED] = "queued", [SERVED] = "handed out",
+    [CANCELLED] = "cancelled while it waited", [TAKEN_OFF] = "cancelled while it was queued"};
 
 const char *const turn_texts[TURNS] = {
     [PERIODIC_AFTER_ONE_SHOT] = "a periodic timer fires after a one-shot one",
@@ -77,7 +81,7 @@ const char *const part_texts[PARTS] = {
 /* The statuses of each call in their order of refusal; 0 where it has no more. */
 enum { MOST_REFUSALS = 6 };
 static const uint32_t orders[CALLS][MOST_REFUSALS] = {
-    [LAY_OUT] = {10, 8}, [CREATE] = {100, 3, 5}, [IDENT] = {100, 3}, [CANCEL] = {100, 4}, [DELETE] = {100, 4},
+    [LAY_OUT] = {10, 8}, [CREATE] = {100, 3, 5}, [IDENT] = {100, 3}, [CANCEL] = {100, 4, 14}, [DELETE] = {100, 4},
     [FIRE_AFTER] = {100, 10, 9, 4}, [FIRE_WHEN] = {100, 11, 9, 20, 4}, [FIRE_EVERY] = {100, 10, 9, 4},
     [RESET] = {100, 4, 11}, [TICKS_LEFT] = {100, 4}, [TICK] = {100, 101}, [SET_CLOCK] = {100, 101, 20},
     [GET_CLOCK] = {100, 11}, [INITIATE_SERVER] = {100, 14}, [SERVER_FIRE_AFTER] = {100, 14, 10, 9, 4},
@@ -272,6 +276,15 @@ static uint64_t lay_out_faults(const struct call *c)
            bit(WORDS_SHORT, c->words < table_words(c->slots));
 }
 
+/* An id that names no timer names none that waits or is queued. */
+static uint64_t cancel_faults(const struct oracle *o, const struct call *c)
+{
+    uint64_t faults = id_faults(o, c->id);
+    uint32_t index = c->id - ID_BASE;
+    bool stops = !faults && (o->timer[index].waiting || place_in_queue(o, index) < o->queued);
+    return faults | bit(NOTHING_TO_CANCEL, !stops);
+}
+
 static uint64_t fire_after_faults(const struct oracle *o, const struct call *c)
 {
     return bit(TICKS_ZERO, c->ticks == 0) | bit(ROUTINE_ZERO, c->routine == 0) | id_faults(o, c->id);
@@ -308,6 +321,7 @@ static uint64_t faults_of(const struct oracle *o, const struct call *c)
     case IDENT:
         return c->name == 0 ? bit(NAME_ZERO, true) : bit(NAME_UNKNOWN, slots_with_name(o, c->name, &unused) == 0);
     case CANCEL:
+        return cancel_faults(o, c);
     case DELETE:
     case TICKS_LEFT:
         return id_faults(o, c->id);
@@ -342,6 +356,16 @@ static uint64_t id_argument_faults(uint32_t id)
     return bit(ID_BELOW, id <= ID_BASE) | bit(ID_ABOVE, id > ID_BASE + MAX_SLOTS);
 }
 
+/* The word where the kind of that timer would stand is the kind of one that neither waits nor is queued. */
+static bool idle_by_its_word(const struct call *c, const uint32_t *table)
+{
+    uint32_t index = c->id - ID_BASE;
+    if (index < 1 || index > MAX_SLOTS || slot_at(index, SLOT_KIND) >= c->words)
+        return false;
+    uint32_t kind = table[slot_at(index, SLOT_KIND)];
+    return kind == KIND_NEVER_STARTED || idle(kind);
+}
+
 static uint64_t fire_after_argument_faults(const struct call *c)
 {
     return bit(TICKS_ZERO, c->ticks == 0) | bit(ROUTINE_ZERO, c->routine == 0) | id_argument_faults(c->id);
@@ -366,6 +390,7 @@ static uint64_t argument_faults(const struct call *c, const uint32_t *table)
     case IDENT:
         return bit(NAME_ZERO, c->name == 0);
     case CANCEL:
+        return id_argument_faults(c->id) | bit(NOTHING_TO_CANCEL, idle_by_its_word(c, table));
     case DELETE:
     case RESET:
     case TICKS_LEFT:
@@ -397,6 +422,7 @@ static void clear(struct outcome *outcome)
 {
     outcome->timer_kind = KIND_FREE;
     outcome->queue_place = NOT_QUEUED;
+    outcome->last_event = CREATED;
     outcome->queued_before = outcome->answer = outcome->due_count = 0;
     outcome->clock = (struct hc_wall_time){0, 0, 0, 0, 0, 0, 0};
 }
@@ -472,6 +498,7 @@ static void fire_due(struct oracle *o, int started, uint64_t limit, struct outco
     for (int i = 0; i < count; i++) {
         struct oracle_timer *t = &o->timer[list[i].index];
         t->waiting = false;
+        t->last_event = t->server ? QUEUED : FIRED;
         out->due[out->due_count++] = list[i].index;
         if (t->server)
             o->queue[o->queued++] = list[i].index;
@@ -513,10 +540,17 @@ static void stop(struct oracle *o, uint32_t index)
     take_off_queue(o, index);
 }
 
+static void cancel(struct oracle *o, uint32_t index)
+{
+    o->timer[index].last_event = o->timer[index].waiting ? CANCELLED : TAKEN_OFF;
+    stop(o, index);
+}
+
 static void start(struct oracle *o, uint32_t index, const struct call *c)
 {
     struct oracle_timer *t = &o->timer[index];
     stop(o, index);
+    t->last_event = STARTED;
     t->waiting = true;
     t->start = ++o->starts;
     if (c->kind != RESET) {
@@ -552,6 +586,7 @@ static void serve(struct oracle *o, struct outcome *out)
     if (o->queued == 0)
         return;
     list_entry(o, o->queue[0], out);
+    o->timer[o->queue[0]].last_event = SERVED;
     take_off_queue(o, o->queue[0]);
 }
 
@@ -577,7 +612,7 @@ static void apply(struct oracle *o, const struct call *c, struct outcome *out)
         out->answer = ID_BASE + lowest;
         break;
     case CANCEL:
-        stop(o, index);
+        cancel(o, index);
         break;
     case DELETE:
         stop(o, index);
@@ -638,6 +673,7 @@ void oracle_call(struct oracle *state, const struct call *call, struct outcome *
     if (index != 0) {
         outcome->timer_kind = kind_of(state, index);
         outcome->queue_place = queue_place_of(state, index);
+        outcome->last_event = state->timer[index].last_event;
     }
     outcome->queued_before = state->queued;
     outcome->applying = faults_of(state, call);
@@ -942,6 +978,7 @@ bool oracle_possible(enum call_kind kind, enum reason reason)
     case IDENT:
         return reason == TABLE_NOT_SOUND || reason == NAME_ZERO || reason == NAME_UNKNOWN;
     case CANCEL:
+        return reason == NOTHING_TO_CANCEL || oracle_possible(DELETE, reason);
     case DELETE:
     case TICKS_LEFT:
         return reason == TABLE_NOT_SOUND || (reason >= ID_BELOW && reason <= ID_FREE);
@@ -981,8 +1018,8 @@ static int place_in_order(enum call_kind kind, uint32_t status)
     return -1;
 }
 
-/* On a table that is not sound there is no telling whether a slot is free or of which kind a timer is; and an id that names
- * no timer has no kind that reset refuses. */
+/* On a table that is not sound there is no telling whether a slot is free or whether reset would refuse a timer's kind; and
+ * an id that names no timer has no such kind. */
 bool oracle_pair_possible(enum call_kind kind, uint32_t first, uint32_t second)
 {
     int first_place = place_in_order(kind, first), second_place = place_in_order(kind, second);
@@ -999,15 +1036,21 @@ bool oracle_takes(enum call_kind kind, uint32_t timer_kind)
 {
     if (kind == SERVE)
         return is_queued(timer_kind);
+    if (kind == CANCEL)
+        return waits_for_ticks(timer_kind) || waits_for_date(timer_kind) || is_queued(timer_kind);
     if (kind == RESET && (by_date(timer_kind) || timer_kind == KIND_NEVER_STARTED))
         return false;
     return oracle_takes_id(kind) && timer_kind != KIND_FREE;
 }
 
-/* The starts alone are refused for other arguments than the id, and serve for its list. */
+/* Cancel and reset are refused for the timer's kind; the starts for other arguments than the id, and serve for its list. */
 bool oracle_refuses(enum call_kind kind, uint32_t timer_kind)
 {
-    return (is_start(kind) && timer_kind != KIND_FREE) || (kind == SERVE && is_queued(timer_kind));
+    if (kind == SERVE)
+        return is_queued(timer_kind);
+    if (kind == CANCEL || kind == RESET)
+        return timer_kind != KIND_FREE && !oracle_takes(kind, timer_kind);
+    return is_start(kind) && timer_kind != KIND_FREE;
 }
 
 bool oracle_takes_off(enum call_kind kind, uint32_t timer_kind)
@@ -1106,6 +1149,17 @@ enum {
     STARTED_KINDS = TICKING_KINDS | DATED_KINDS | IDLE_KINDS | QUEUED_KINDS,
     BY_DATE_KINDS = DATED_KINDS | KIND_BIT(KIND_IDLE_DATED) | KIND_BIT(KIND_IDLE_SERVER_DATED) | KIND_BIT(KIND_QUEUED_DATED)
 };
+
+/* For each event, the kinds of timers that it leaves. */
+static const uint32_t kinds_after[EVENTS] = {
+    [CREATED] = KIND_BIT(KIND_NEVER_STARTED), [STARTED] = TICKING_KINDS | DATED_KINDS,
+    [FIRED] = KIND_BIT(KIND_IDLE_TICKING) | KIND_BIT(KIND_IDLE_DATED) | KIND_BIT(KIND_PERIODIC), [QUEUED] = QUEUED_KINDS,
+    [SERVED] = IDLE_SERVER_KINDS, [CANCELLED] = IDLE_KINDS, [TAKEN_OFF] = IDLE_SERVER_KINDS};
+
+bool oracle_kind_after(enum event event, uint32_t timer_kind)
+{
+    return kinds_after[event] & KIND_BIT(timer_kind);
+}
 
 /* For each part, the kinds of slots that break it alone; 0 where it is not a slot's to break. */
 static const uint32_t kinds_that_break[PARTS] = {

@@ -75,7 +75,7 @@ struct call {
 /* Why a call is refused: finer than the statuses, so that a test can tell which of them it has met. */
 enum reason {
     ACCEPTED,
-    TABLE_NOT_SOUND, LIST_SHORT, SERVED_SHORT, INITIATED_ALREADY, NOT_INITIATED,
+    TABLE_NOT_SOUND, LIST_SHORT, SERVED_SHORT, INITIATED_ALREADY, NOT_INITIATED, NOTHING_TO_CANCEL,
     SLOTS_BELOW, SLOTS_ABOVE, TPS_BELOW, TPS_ABOVE, WORDS_SHORT,
     NAME_ZERO, NAME_UNKNOWN, NONE_FREE,
     ID_BELOW, ID_ABOVE, ID_FREE,
@@ -88,6 +88,9 @@ enum reason {
 /* Where in the queue a timer stands. */
 enum queue_place { NOT_QUEUED, QUEUED_ALONE, QUEUED_FIRST, QUEUED_BETWEEN, QUEUED_LAST, QUEUE_PLACES };
 
+/* What befell a timer last. */
+enum event { CREATED, STARTED, FIRED, QUEUED, SERVED, CANCELLED, TAKEN_OFF, EVENTS };
+
 struct outcome {
     uint32_t status;
     enum reason reason;             /* one that gives the status */
@@ -95,6 +98,7 @@ struct outcome {
     uint32_t timer_kind;            /* before the call, of the timer that its id names, or of the queue's first for serve;
                                        KIND_FREE if there is none */
     enum queue_place queue_place;   /* before the call, of that timer */
+    enum event last_event;          /* before the call, of that timer; CREATED if there is none */
     uint32_t queued_before;         /* timers in the queue */
     uint32_t answer;
     struct hc_wall_time clock;      /* get clock's answer */
@@ -109,6 +113,7 @@ struct oracle_timer {
     bool periodic;                  /* then by interval */
     bool server;                    /* then not periodic */
     uint32_t name, interval, routine, data;
+    enum event last_event;          /* for what a test must have met; not known of a timer read from a table */
     uint64_t due;                   /* the tick since lay out, or the second */
     uint64_t start;                 /* number of its last start or going back, counted from lay out */
 };
@@ -152,6 +157,7 @@ extern const char *const call_names[CALLS];
 extern const char *const reason_texts[REASONS];
 extern const uint32_t reason_statuses[REASONS];
 extern const char *const queue_place_texts[QUEUE_PLACES];
+extern const char *const event_texts[EVENTS];
 extern const char *const turn_texts[TURNS];
 extern const char *const part_texts[PARTS];
 
@@ -166,7 +172,7 @@ void oracle_encode(const struct oracle *state, uint32_t *table);
 uint64_t oracle_broken(const uint32_t *table, size_t words, uint32_t *kinds);
 
 /* What a call other than lay out gives on a table that is not sound: a refusal with 100. Of the other reasons, those apply
- * that the arguments give alone, or one header word where the slice has it: they must come second. */
+ * that the arguments give alone, or one word of the table where the slice has it: they must come second. */
 void oracle_refuse_unsound(const struct call *call, const uint32_t *table, struct outcome *outcome);
 
 /* The state that a sound table holds. */
@@ -193,6 +199,9 @@ bool oracle_refuses(enum call_kind kind, uint32_t timer_kind);
 
 /* Does the call, where it is accepted, take a queued timer of this kind off the queue by its id. */
 bool oracle_takes_off(enum call_kind kind, uint32_t timer_kind);
+
+/* May a timer be of this kind when this befell it last. */
+bool oracle_kind_after(enum event event, uint32_t timer_kind);
 
 /* May a slot of this kind alone break this part of soundness. */
 bool oracle_breaks(enum part part, uint32_t timer_kind);

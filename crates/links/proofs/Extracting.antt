@@ -144,6 +144,9 @@ module _ (t : List ℕ) (i : ℕ) (h : InTable t i) where
   slot-is : slotAt (read t .slots) i ≡ slotFrom t i
   slot-is = slot-read t i (h .low) (h .high)
 
+  pub kind-is : slotAt (read t .slots) i .kind ≡ kindOf t i
+  kind-is = ap (λ (x : Slot). x .kind) slot-is
+
   pub times-kind : (k : Chain) (b : Bool) → waitsIn k (kindOf t i) ≡ b → timesIn (chainOf k (read t)) i ≡ cond b 1 0
   times-kind k b e =
       h .holds .chained .meets k i ∙ ap (λ (x : Slot). cond (waitsIn k (x .kind)) 1 0) slot-is ∙ ap (λ (c : Bool). cond c 1 0) e

@@ -1,23 +1,24 @@
 -- To stop and then to start is to start: the table after the stop holds the stopped state and is read as that, and what a start makes of it is
 -- what it makes of the state before. Assumes nothing.
-use mathlib.Core.Path.{_≡_, ap, ap₂, _∙_}
+use mathlib.Core.Path.{_≡_, sym, ap, ap₂, _∙_}
 use Prim.Native.Nat.{ℕ}
 use native.Mathlib.Omega.{arith}
+use mathlib.Core.Bool.{false}
 use mathlib.Core.List.{List}
 use lib.ListN.{length}
 use Rattle.model.specs.declared.Mode.{Mode}
-use Rattle.model.specs.Kinds.{chainFor, waitsIn}
+use Rattle.model.specs.Kinds.{kindAt, chainFor, waitsIn, linked}
 use Rattle.model.specs.State.{Slot, Link, State, slotAt, without}
 use Rattle.model.specs.Directives.{stopped, idled, inserted, waitingAs, started}
 use Rattle.model.specs.Words.{writtenOver, read, kindOf}
 use Rattle.model.proofs.Slots.{at-same, put-put}
 use Rattle.model.proofs.Chains.{times-without, without-none}
-use Rattle.model.proofs.KindLaws.{stopped-not-in}
+use Rattle.model.proofs.KindLaws.{in-none, stopped-not-in}
 use Rattle.model.proofs.StateWords.{holds-parts}
 use Rattle.model.proofs.ReadBack.{count-is, over-over}
 use Rattle.model.proofs.Steps.{length-stopped, chained-stopped, length-started}
 use Rattle.links.specs.Places.{InTable, IdleInTable}
-use Rattle.links.proofs.Extracting.{in-slots}
+use Rattle.links.proofs.Extracting.{in-slots, kind-is, stop-idle}
 use Rattle.links.proofs.NextState.{Next, next-start, next-read, next-holds, next-then}
 
 pub stopped-twice : (s : State) (i : ℕ) (x y : Slot) → stopped (stopped s i x) i y ≡ stopped s i y
@@ -34,6 +35,11 @@ stopped-twice s i x y =
 
 abbrev pub stoppedAt : List ℕ → ℕ → State
 stoppedAt t i = stopped (read t) i (idled (slotAt (read t .slots) i))
+
+-- the stop of a timer that is in no chain
+pub stays-unlinked : {t u : List ℕ} {i : ℕ} → InTable t i → linked (slotAt (read t .slots) i .kind) ≡ false → u ≡ writtenOver (stoppedAt t i) t → u ≡ t
+stays-unlinked {t} {u} {i} h idle is =
+    is ∙ sym (stop-idle t i h (λ k. in-none (kindAt (kindOf t i) .chain) k (ap linked (sym (kind-is t i h)) ∙ idle)))
 
 -- u is the table after the stop
 module _ (t : List ℕ) (i : ℕ) (h : InTable t i) (u : List ℕ) (is : u ≡ writtenOver (stoppedAt t i) t) where

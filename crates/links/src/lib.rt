@@ -141,17 +141,18 @@ pub fn stop_first(t: &mut [u32], chain: Chain, i: u32, idle: u32) -> u32
     next
 }
 
-// A waiting or queued timer becomes idle of its own kind; one in no chain stays as it is.
-pub fn stop(t: &mut [u32], i: u32)
+// A waiting or queued timer becomes idle of its own kind; one in no chain stays as it is. Gives whether it was in one.
+pub fn stop(t: &mut [u32], i: u32) -> bool
     requires { ⌜ InTable (now t) i ⌝ }
-    ensures { λ _. ⌜ now (t .exit) ≡ writtenOver (stopped (read (now (t .entry))) i (idled (slotAt (read (now (t .entry)) .slots) i))) (now (t .entry)) ⌝ }
+    ensures { λ r. ⌜ (now (t .exit) ≡ writtenOver (stopped (read (now (t .entry))) i (idled (slotAt (read (now (t .entry)) .slots) i))) (now (t .entry))) × (r ≡ linked (slotAt (read (now (t .entry)) .slots) i .kind)) ⌝ }
 {
     let kind = get(t, i, KIND);
     let idle = stopped_kind(kind);
     if idle == kind {
-        return;
+        return false;
     }
     stop_in(t, chain_in(kind), i, idle);
+    true
 }
 
 // Where a timer goes: the slot before it, and its wait.

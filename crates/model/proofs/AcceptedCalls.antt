@@ -14,7 +14,7 @@ use Rattle.calendar.specs.Calendar.{allOf, valid, secondsOf}
 use Rattle.model.specs.Lists.{All}
 use Rattle.model.specs.Status.{NotSound, numberOf, Refusal, when, firstOf}
 use Rattle.model.specs.Calls.{Call, layOut, create, ident, cancel, delete, fireAfter, fireWhen, fireEvery, reset, ticksLeft, tick, setClock, getClock, initiateServer, serverFireAfter, serverFireWhen, serve}
-use Rattle.model.specs.Kinds.{lastByTicks}
+use Rattle.model.specs.Kinds.{linked, lastByTicks}
 use Rattle.model.specs.State.{State, slotAt, idBase, indexOf, names}
 use Rattle.model.specs.Directives.{lowestFree, lowestNamed, isShort, limits, refusals}
 use Rattle.model.specs.Sound.{sound}
@@ -112,7 +112,7 @@ abbrev pub Accepted : List ℕ → State → Call → Type 0
 Accepted w s (layOut n t) = LaysOut w n t
 Accepted w s (create name) = (0 < name) × (0 < lowestFree s)
 Accepted w s (ident name) = (0 < name) × (0 < lowestNamed s name)
-Accepted w s (cancel id) = Named s id
+Accepted w s (cancel id) = Named s id × (linked (slotAt (s .slots) (indexOf id) .kind) ≡ true)
 Accepted w s (delete id) = Named s id
 Accepted w s (fireAfter id n r u) = StartsByTicks s id n r
 Accepted w s (fireWhen id d r u) = StartsByDate s id d r
@@ -166,7 +166,9 @@ module _ (words : List ℕ) (s : State) where
       }
   accepted-facts (create name) e = let p = not-refused (create name) e in (positive name (p 1), positive (lowestFree s) (p 2))
   accepted-facts (ident name) e = let p = not-refused (ident name) e in (positive name (p 1), positive (lowestNamed s name) (p 2))
-  accepted-facts (cancel id) e = known s id (not-refused (cancel id) e 1)
+  accepted-facts (cancel id) e =
+      let p = not-refused (cancel id) e in
+      (known s id (p 1), not-false (linked (slotAt (s .slots) (indexOf id) .kind)) (p 2))
   accepted-facts (delete id) e = known s id (not-refused (delete id) e 1)
   accepted-facts (fireAfter id n r u) e = let p = not-refused (fireAfter id n r u) e in by-ticks id n r (p 1) (p 2) (p 3)
   accepted-facts (fireWhen id w r u) e = let p = not-refused (fireWhen id w r u) e in by-date id w r (p 1) (p 2) (p 3) (p 4)
@@ -200,7 +202,7 @@ module _ (words : List ℕ) (s : State) where
   )
   no-rule (create name) ok h = (ap not ok, (above name (h .0), (above (lowestFree s) (h .1), tt)))
   no-rule (ident name) ok h = (ap not ok, (above name (h .0), (above (lowestNamed s name) (h .1), tt)))
-  no-rule (cancel id) ok h = (ap not ok, (is-known id h, tt))
+  no-rule (cancel id) ok h = (ap not ok, (is-known id (h .0), (ap not (h .1), tt)))
   no-rule (delete id) ok h = (ap not ok, (is-known id h, tt))
   no-rule (fireAfter id n r u) ok h = (ap not ok, (above n (h .ticks), (above r (h .routine), (is-known id (h .names-one), tt))))
   no-rule (fireWhen id w r u) ok h = (

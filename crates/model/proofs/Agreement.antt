@@ -59,7 +59,7 @@ module _ (s : State) (h : List Event) (v : Agrees s h) (f : WellFormed s) (words
       }) refl
   agrees-step (ident name) e = on-nothing s h v
   agrees-step (cancel id) e =
-      let p = accepted-facts words s (cancel id) e in
+      let p = accepted-facts words s (cancel id) e .0 in
       let x = slotAt (s .slots) (indexOf id) in
       on-stop s h v id (indexOf id) (p .is) (p .low) (p .high) (idled x) (subst (Remembers h (indexOf id)) (sym (memo-idled x)) (v .memory (indexOf id)))
   agrees-step (delete id) e =

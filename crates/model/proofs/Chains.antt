@@ -8,12 +8,12 @@ use lib.ListN.{length, length-append}
 use lib.Dec.{eqb}
 use borrow.Author.Tests.{eqb-true, eqb-false, eq-eqb, ne-eqb, not-true}
 use Rattle.model.specs.Lists.{All}
-use Rattle.model.specs.Kinds.{Chain, ByTicks, ByDate, Queue, kindAt, sameChain, waitsIn}
+use Rattle.model.specs.Kinds.{Chain, ByTicks, ByDate, Queue, kindAt, sameChain, waitsIn, linked}
 use Rattle.model.specs.State.{Link, State, chainOf, slotAt, without}
 use Rattle.model.specs.Directives.{closer}
 use Rattle.model.specs.Words.{sumOf}
 use Rattle.model.proofs.ListLaws.{cases, all-map, all-append, all-keep, all-passed, all-zip, count-append, count-keep}
-use Rattle.model.proofs.KindLaws.{one-chain}
+use Rattle.model.proofs.KindLaws.{one-chain, times-in}
 use Rattle.model.proofs.Slots.{in-range}
 use Rattle.model.proofs.WellFormed.{timesIn, Chained}
 
@@ -97,8 +97,12 @@ module _ (s : State) (h : Chained s) where
   pub once : (k : Chain) (i : ℕ) → timesIn (chainOf k s) i ≤ 1
   once k i = omega (arith, h .meets k i, once-only (waitsIn k (slotAt (s .slots) i .kind)))
 
+  -- in all chains together a slot stands once, where its kind is linked
+  pub times-all : (i : ℕ) → sumOf (λ _ c. timesIn c i) s ≡ cond (linked (slotAt (s .slots) i .kind)) 1 0
+  times-all i = omega (arith, h .meets ByTicks i, h .meets ByDate i, h .meets Queue i, times-in (kindAt (slotAt (s .slots) i .kind) .chain))
+
   pub once-all : (i : ℕ) → sumOf (λ _ c. timesIn c i) s ≤ 1
-  once-all i = omega (arith, once-apart ByTicks ByDate refl i, once-apart ByTicks Queue refl i, once-apart ByDate Queue refl i)
+  once-all i = omega (arith, times-all i, once-only (linked (slotAt (s .slots) i .kind)))
 
   pub met-in-range : (k : Chain) (i : ℕ) → 0 < timesIn (chainOf k s) i → (0 < i) × (i ≤ length (s .slots))
   met-in-range k i p = in-range (s .slots) i (in-not-free k (slotAt (s .slots) i .kind) (omega (arith, p, h .meets k i)))

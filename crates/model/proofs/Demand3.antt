@@ -31,7 +31,7 @@ use Rattle.model.proofs.Simulation.{Agrees, agrees-laid}
 use Rattle.model.proofs.Agreement.{reset-last, agrees-step, lists-due, many-fire, many-served, few-fire, none-fires, counts}
 use Rattle.model.proofs.OutcomeLaws.{status-is, outcome-accepted, outcome-refused, outcome-status}
 use Rattle.model.proofs.CallTables.{laid-table, laid-sound, laid-read, effect-sound, table-left, state-left}
-use Rattle.model.proofs.Lasting.{none-laid, cancels-on, lasts-on, anew-on}
+use Rattle.model.proofs.Lasting.{none-laid, cancels-on, cancelled-on, lasts-on, anew-on}
 use Rattle.model.proofs.ListWords.{list-begins, table-size, words-beyond}
 
 -- the table t is sound and its state agrees with the events h
@@ -128,7 +128,8 @@ module _ (t : List ℕ) (h : List Event) (g : SoundAndAgreeing t h) (c : Call) w
     lent-tick = λ list is. ap lentTo is;
     lent-set = λ w list is. ap lentTo is;
     lent-serve = λ list is. ap lentTo is;
-    cancels = λ id is e. cancels-on t (g .is-sound) id c is (sym (outcome-status t c) ∙ e);
+    cancels = λ id is known. outcome-status t c ∙ cancels-on t (g .is-sound) id c is known;
+    cancelled = λ id is e. cancelled-on t (g .is-sound) id c is (sym (outcome-status t c) ∙ e);
     restarts = λ id is e. restarts-now (sym (outcome-status t c) ∙ e) id is;
     left = λ id is e. left-now (sym (outcome-status t c) ∙ e) id is;
     lasts = λ e id. lasts-on t (g .is-sound) c (sym (outcome-status t c) ∙ e) id;

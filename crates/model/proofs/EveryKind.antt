@@ -85,8 +85,8 @@ idCalls =
 
 abbrev pub idResults : List (List (List ℕ))
 idResults =
-    -- Cancel: 4 becomes 2, 5 becomes 3, 6 becomes 7, 10 and 12 become 8, 11 and 13 become 9; idle ones stay.
-    (named (replicate 13 0) ∷ replicate 16 0 ∷ (1 ∷ 2 ∷ 3 ∷ 2 ∷ 3 ∷ 7 ∷ 7 ∷ 8 ∷ 9 ∷ 8 ∷ 9 ∷ 8 ∷ 9 ∷ []) ∷ [])
+    -- Cancel: 4 becomes 2, 5 becomes 3, 6 becomes 7, 10 and 12 become 8, 11 and 13 become 9. Any other stays: 14.
+    (named (14 ∷ 14 ∷ 14 ∷ 0 ∷ 0 ∷ 0 ∷ 14 ∷ 14 ∷ 14 ∷ 0 ∷ 0 ∷ 0 ∷ 0 ∷ []) ∷ replicate 16 0 ∷ (1 ∷ 2 ∷ 3 ∷ 2 ∷ 3 ∷ 7 ∷ 7 ∷ 8 ∷ 9 ∷ 8 ∷ 9 ∷ 8 ∷ 9 ∷ []) ∷ [])
     -- Delete: the slot is free.
     ∷ accepts 0
     -- Reset: 2 and 4 start as 4, 6 and 7 as 6, 8, 10 and 12 as 10; 11 for 1, 3, 5, 9, 11 and 13.

@@ -270,7 +270,7 @@ module _ (s : State) (h : WellFormed s) where
         (λ k. refl) (never-started-shape (s .server) name (p .0))
     kept (ident name) e = h
     kept (cancel id) e =
-        let is = accepted-facts words s (cancel id) e in
+        let is = accepted-facts words s (cancel id) e .0 in
         let x = slotAt (s .slots) (indexOf id) in
         formed-stopped s h (indexOf id) (idled x) (is .low) (is .high) (λ k. stopped-not-in k (x .kind)) (idle-shape (s .server) x (h .shape (indexOf id)))
     kept (delete id) e =

@@ -92,6 +92,13 @@ one-chain j k (some i) e =
     (λ f. rw (f, ← same-chain j i f, chain-sym k j ∙ e) (omega arith))
     (λ f. rw f (cases (sameChain k i) (λ g. rw g (omega arith)) (λ g. rw g (omega arith))))
 
+-- the chains that a kind is in: one, or none
+pub times-in : (o : Option Chain) → cond (isIn ByTicks o) 1 0 + cond (isIn ByDate o) 1 0 + cond (isIn Queue o) 1 0 ≡ cond (isSome o) 1 0
+times-in none = refl
+times-in (some ByTicks) = refl
+times-in (some ByDate) = refl
+times-in (some Queue) = refl
+
 -- a kind is in some chain or in none
 pub none-in : (o : Option Chain) → ((k : Chain) → isIn k o ≡ false) → isSome o ≡ false
 none-in none h = refl

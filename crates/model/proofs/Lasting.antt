@@ -3,31 +3,32 @@
 use mathlib.Core.Path.{_≡_, refl, sym, ap, ap₂, _∙_, subst}
 use Prim.Native.Nat.{ℕ, _+_, _≤_, _<_}
 use native.Mathlib.Omega.{arith}
-use mathlib.Core.Bool.{Bool, true, false, not, _&&_, _||_}
+use mathlib.Core.Bool.{Bool, true, false, cond, not, _&&_, _||_}
 use mathlib.Core.List.{List, [], _∷_}
 use lib.ListN.{length, replicate}
 use lib.Dec.{leb, ltb, eqb}
 use borrow.Author.Tests.{eqb-true, eqb-false, eq-eqb, ne-eqb}
 use Rattle.calendar.specs.Calendar.{allOf, secondsOf}
 use Rattle.model.specs.Calls.{Call, layOut, create, ident, cancel, delete, fireAfter, fireWhen, fireEvery, reset, ticksLeft, tick, setClock, getClock, initiateServer, serverFireAfter, serverFireWhen, serve}
-use Rattle.model.specs.Kinds.{Kind, Mode, After, When, Every, ServerAfter, ServerWhen, Chain, ByTicks, ByDate, Queue, kindAt, waitingKind, lastMode}
+use Rattle.model.specs.Kinds.{Kind, Mode, After, When, Every, ServerAfter, ServerWhen, Chain, ByTicks, ByDate, Queue, kindAt, waitingKind, linked, lastMode}
 use Rattle.model.specs.State.{Slot, Link, State, withClock, free, slotAt, putAt, idBase, indexOf, names}
 use Rattle.model.specs.Directives.{lowestFree, laidOut, stored, neverStarted, stopped, idled, waitingAs, started, fired, firedAll, due, fire, front, handedOut, nearer, clockAt, clockStep, effect}
 use Rattle.model.specs.Words.{sumOf, read}
 use Rattle.model.specs.Sound.{sound}
 use Rattle.model.specs.Outcome.{Outcome, statusOn, outcome}
 use Rattle.model.specs.History.{lastsAfter}
-use Rattle.model.specs.Demand.{firstNumber}
+use Rattle.model.specs.Demand.{firstNumber, timesLinked}
 use Rattle.model.proofs.ListLaws.{cases, clash}
 use Rattle.model.proofs.KindLaws.{stopped-free, fired-free, mode-kind}
 use Rattle.model.proofs.Slots.{at-same, at-other, length-put, field-put, length-firedAll, blank}
 use Rattle.model.proofs.WellFormed.{timesIn}
-use Rattle.model.proofs.Chains.{times-without}
+use Rattle.model.proofs.Chains.{times-without, times-all}
 use Rattle.model.proofs.Searches.{found}
 use Rattle.model.proofs.GoingOn.{with-chain-slots}
 use Rattle.model.proofs.Steps.{fire-slots}
 use Rattle.model.proofs.AcceptedCalls.{Named, named, named-true, Accepted, accepted-facts}
 use Rattle.model.proofs.OutcomeLaws.{status-is, outcome-accepted}
+use Rattle.model.proofs.SoundHolds.{sound-holds}
 use Rattle.model.proofs.CallTables.{state-left}
 
 -- the slot is free
@@ -161,6 +162,11 @@ lasts-step words s (serverFireWhen d w r u) p id =
     same-names s (started ServerWhen s (indexOf d) (secondsOf w) r u) (start-free s ServerWhen d (secondsOf w) r u (p .1 .names-one)) id
 lasts-step words s (serve list) p id = same-names s (handedOut s) (fired-slots (front s) (s .slots)) id
 
+-- 14 where the timer stands in no chain
+cancel-status : (linked : Bool) → _≡_ {A = ℕ} (cond (not linked) 14 0) (cond (eqb (cond linked 1 0) 0) 14 0)
+cancel-status true = refl
+cancel-status false = refl
+
 module _ (t : List ℕ) (ok : sound t ≡ true) where
   facts : (c : Call) → statusOn t c ≡ 0 → Accepted t (read t) c
   facts c e = accepted-facts t (read t) c (sym (status-is t c) ∙ e)
@@ -179,9 +185,14 @@ module _ (t : List ℕ) (ok : sound t ≡ true) where
       subst (λ (d : Call). statusOn t d ≡ 0 → names (read t) (firstNumber (outcome t d .answer)) ≡ false) (sym is)
       (λ e. ap (λ (a : List ℕ). names (read t) (firstNumber a)) (answer-is (create name) e) ∙ created-anew (read t) (facts (create name) e .1))
 
-  pub cancels-on : (id : ℕ) (c : Call) → c ≡ cancel id → statusOn t c ≡ 0
+  pub cancels-on : (id : ℕ) (c : Call) → c ≡ cancel id → names (read t) id ≡ true → statusOn t c ≡ cond (eqb (timesLinked t (indexOf id)) 0) 14 0
+  cancels-on id c is known =
+      ap (statusOn t) is ∙ status-is t (cancel id)
+      ∙ rw (ok, known, times-all (read t) (sound-holds t ok .chained) (indexOf id)) (cancel-status (linked (slotAt (read t .slots) (indexOf id) .kind)))
+
+  pub cancelled-on : (id : ℕ) (c : Call) → c ≡ cancel id → statusOn t c ≡ 0
       → sumOf (λ _ l. timesIn l (indexOf id)) (read (outcome t c .table)) ≡ 0
-  cancels-on id c is =
+  cancelled-on id c is =
       subst (λ (d : Call). statusOn t d ≡ 0 → sumOf (λ _ l. timesIn l (indexOf id)) (read (outcome t d .table)) ≡ 0) (sym is)
       (λ e.
       ap (sumOf (λ _ l. timesIn l (indexOf id))) (state-left t ok (cancel id) e)

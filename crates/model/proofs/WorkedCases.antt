@@ -75,7 +75,7 @@ workedCases =
     ∷ calls (replicate 18 0)
     (layOut 1 10 ∷ create 0 ∷ ident 0 ∷ ident 1 ∷ cancel one ∷ delete one ∷ reset one ∷ ticksLeft one ∷ create 1 ∷ create 2 ∷ cancel two ∷ reset one
     ∷ cancel one ∷ cancel one ∷ delete one ∷ delete one ∷ create 2 ∷ [])
-    (yes 0 ∷ no 3 ∷ no 3 ∷ no 3 ∷ no 4 ∷ no 4 ∷ no 4 ∷ no 4 ∷ yes one ∷ no 5 ∷ no 4 ∷ no 11 ∷ yes 0 ∷ yes 0 ∷ yes 0 ∷ no 4 ∷ yes one ∷ [])
+    (yes 0 ∷ no 3 ∷ no 3 ∷ no 3 ∷ no 4 ∷ no 4 ∷ no 4 ∷ no 4 ∷ yes one ∷ no 5 ∷ no 4 ∷ no 11 ∷ no 14 ∷ no 14 ∷ yes 0 ∷ no 4 ∷ yes one ∷ [])
     (unlent 17) (1 ∷ 10 ∷ replicate 8 0 ++ (1 ∷ 2 ∷ replicate 6 0))
     -- Fire after 10, 9, 4; fire when 11, 9, 20, 4; get clock 11, with seven zeros; 101 for a list of two words, which stays, before 20.
     ∷ calls (replicate 18 0)

@@ -39,6 +39,10 @@ Shows ByTicks es shows = (l : List Placed) × InOrder ticksLeftOrDate (keep (inC
 Shows ByDate es shows = (l : List Placed) × InOrder ticksLeftOrDate (keep (inChain ByDate) (keep waits (starts es))) l × (shows ≡ map waiting l)
 Shows Queue es shows = (q : List Start) × IsQueue es q × (shows ≡ map queuedAs q)
 
+-- how often a slot stands in the chains of a table
+abbrev pub timesLinked : List ℕ → ℕ → ℕ
+timesLinked t i = sumOf (λ _ l. count (λ w. eqb (w .slot) i) l) (read t)
+
 -- What the table t has to be after these events.
 pub record Standing (t : List ℕ) (es : List Event) : Type 0 where
   pub is-sound : sound t ≡ true
@@ -47,7 +51,7 @@ pub record Standing (t : List ℕ) (es : List Event) : Type 0 where
   -- The same in reverse by previous from its last slot.
   pub by-previous : (k : Chain) → along (previousOf t) (slotCount t) (first (reverse (links k t))) ≡ map (λ w. w .slot) (reverse (links k t))
   -- Each waiting or queued timer stands there once.
-  pub once : (i : ℕ) → sumOf (λ _ c. count (λ w. eqb (w .slot) i) c) (read t) ≤ 1
+  pub once : (i : ℕ) → timesLinked t i ≤ 1
   -- The table's T and its clock, counted in ticks, are those of the events; it is unset where theirs is.
   pub rate : perSecond es ≡ ticksPerSecond t
   pub clock : clockAfter 0 es ≡ cond (eqb (clockSet t) 1) (some (seconds t * ticksPerSecond t + ticksInto t)) none
@@ -93,9 +97,9 @@ pub record Answers (t : List ℕ) (es : List Event) (c : Call) (e : Event) : Typ
   pub lent-tick : (list : List ℕ) → c ≡ tick list → lentTo c ≡ list
   pub lent-set : (w : WallTime) (list : List ℕ) → c ≡ setClock w list → lentTo c ≡ list
   pub lent-serve : (list : List ℕ) → c ≡ serve list → lentTo c ≡ list
-  -- A cancelled timer is in no chain.
-  pub cancels : (id : ℕ) → c ≡ cancel id → outcome t c .status ≡ 0
-      → sumOf (λ _ l. count (λ w. eqb (w .slot) (indexOf id)) l) (read (outcome t c .table)) ≡ 0
+  -- A cancel of a timer that is in no chain, neither waiting nor queued, is refused with 14. Any other is accepted, and the timer is in none then.
+  pub cancels : (id : ℕ) → c ≡ cancel id → names (read t) id ≡ true → outcome t c .status ≡ cond (eqb (timesLinked t (indexOf id)) 0) 14 0
+  pub cancelled : (id : ℕ) → c ≡ cancel id → outcome t c .status ≡ 0 → timesLinked (outcome t c .table) (indexOf id) ≡ 0
   -- An accepted reset is a start for ticks, that timer's last start again.
   pub restarts : (id : ℕ) → c ≡ reset id → outcome t c .status ≡ 0
       → (s : Start) × (e ≡ changes id (some s)) × (s .id ≡ id) × (chainFor (s .mode) ≡ ByTicks) × (lastStart id es ≡ some s)

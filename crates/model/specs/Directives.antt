@@ -11,7 +11,7 @@ use Rattle.calendar.specs.Calendar.{allOf, valid, secondsOf, lastSecond, dateOf
 use Rattle.model.specs.Lists.{keep, place}
 use Rattle.model.specs.Status.{Refusal, when, InvalidName, InvalidId, TooMany, InvalidSize, InvalidAddress, InvalidNumber, NotDefined, IncorrectState, InvalidClock, NotSound, ListTooShort}
 use Rattle.model.specs.Calls.{Call, layOut, create, ident, cancel, delete, fireAfter, fireWhen, fireEvery, reset, ticksLeft, tick, setClock, getClock, initiateServer, serverFireAfter, serverFireWhen, serve}
-use Rattle.model.specs.Kinds.{Chain, ByTicks, ByDate, Queue, Mode, After, When, Every, ServerAfter, ServerWhen, kindAt, chainFor, waitingKind, intervalIn, lastByTicks, forServer, lastMode}
+use Rattle.model.specs.Kinds.{Chain, ByTicks, ByDate, Queue, Mode, After, When, Every, ServerAfter, ServerWhen, kindAt, chainFor, waitingKind, intervalIn, linked, lastByTicks, forServer, lastMode}
 use Rattle.model.specs.Sound.{sound}
 use Rattle.model.specs.State.{Slot, Link, Clock, State, chainOf, withChain, withClock, free, slotAt, putAt, lowest, without, waitAt, idBase, indexOf, names}
 
@@ -49,6 +49,10 @@ alreadyInitiated s = when IncorrectState (s .server)
 abbrev pub notInitiated : State → Refusal
 notInitiated s = when IncorrectState (not (s .server))
 
+-- The timer is neither waiting nor queued.
+abbrev pub nothingToCancel : State → ℕ → Refusal
+nothingToCancel s id = when IncorrectState (not (linked (slotAt (s .slots) (indexOf id) .kind)))
+
 -- the rules of a start for ticks: 10, 9, 4; and of one for a date: 11, 9, 20, 4
 abbrev pub startRules : State → ℕ → ℕ → ℕ → List Refusal
 startRules s id n r = when InvalidNumber (eqb n 0) ∷ when InvalidAddress (eqb r 0) ∷ noSuchId s id ∷ []
@@ -83,7 +87,7 @@ stopped s i x =
 abbrev pub became : ℕ → Slot → Slot
 became kind x = record { kind = kind; name = x .name; interval = x .interval; routine = x .routine; userData = x .userData }
 
--- Cancel: a waiting or queued timer becomes idle of its own kind. Any other stays as it is. (Its follower takes over its wait since the other
+-- Cancel: a waiting or queued timer becomes idle of its own kind. (Its follower takes over its wait since the other
 -- links keep their ticks left, and a wait is the difference of two: `Words`.)
 abbrev pub idled : Slot → Slot
 idled x = became (kindAt (x .kind) .whenStopped) x
@@ -229,8 +233,9 @@ directive (ident name) = record {
   rules = λ w s. unsound w ∷ when InvalidName (eqb name 0) ∷ when InvalidName (eqb (lowestNamed s name) 0) ∷ [];
   does = λ s. leaves s (idBase + lowestNamed s name);
 }
+-- Cancel of a timer that is neither waiting nor queued: 14, after 4.
 directive (cancel id) = record {
-  rules = λ w s. unsound w ∷ noSuchId s id ∷ [];
+  rules = λ w s. unsound w ∷ noSuchId s id ∷ nothingToCancel s id ∷ [];
   does = λ s. leaves (stopped s (indexOf id) (idled (slotAt (s .slots) (indexOf id)))) 0;
 }
 -- Cancelled if waiting or queued, then the slot is free and all zero.

@@ -90,7 +90,7 @@ pub fn ident(table: &[u32], name: u32) -> Answer
     Answer::Done(ID_BASE + i)
 }
 
-// A waiting or queued timer is idle then; any other stays as it is.
+// A waiting or queued timer is idle then. Refused where there is nothing to cancel.
 pub fn cancel(table: &mut [u32], id: u32) -> Answer
     ensures { λ r. ⌜ outcomeOf (statusOf r) (answerOf r) (now (table .exit)) [] ≡ outcome (now (table .entry)) (call.cancel id) ⌝ }
 {
@@ -98,7 +98,9 @@ pub fn cancel(table: &mut [u32], id: u32) -> Answer
     let Answer::Done(i) = opened else {
         return opened;
     };
-    stop(table, i);
+    if !stop(table, i) {
+        return Answer::Refused(Status::IncorrectState);
+    }
     Answer::Done(0)
 }
 

@@ -11,7 +11,7 @@ start-idle-requires : tie.Need-start-idle-requires
 start-idle-requires c κs =
     let done = c .before .before .before in
     let start = done .before .before .before in
-    idle-now (start .args .t .now) (start .args .i) (start .pre) (done .stop .last .0) (done .stop .ensures)
+    idle-now (start .args .t .now) (start .args .i) (start .pre) (done .stop .last .0) (done .stop .ensures .0)
 
 same-length : tie.Need-same-length
 same-length c = search needs
@@ -22,7 +22,7 @@ returns c =
     let start = done .before .before .before in
     let a = start .args in
     let last = c .before .before .start-idle in
-    restarted (a .t .now) (a .i) (start .pre) (done .stop .last .0) (done .stop .ensures)
+    restarted (a .t .now) (a .i) (start .pre) (done .stop .last .0) (done .stop .ensures .0)
     (a .mode) (a .amount) (a .routine) (a .user-data) (last .last .0) (last .ensures)
 
 pub start-spec : {M : Type 1} → statement M

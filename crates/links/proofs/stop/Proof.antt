@@ -3,10 +3,10 @@ use mathlib.Core.Path.{_≡_, sym, ap, _∙_, subst}
 use Prim.Native.Nat.{ℕ}
 use native.Mathlib.Omega.{arith}
 use mathlib.Core.Bool.{true, false}
-use Rattle.model.specs.Kinds.{kindAt, waitsIn}
+use Rattle.model.specs.Kinds.{kindAt, waitsIn, linked}
 use Rattle.model.proofs.KindLaws.{in-none}
 use Rattle.links.proofs.StoppedKinds.{same-stops, other-stops}
-use Rattle.links.proofs.Extracting.{in-words, stop-idle}
+use Rattle.links.proofs.Extracting.{in-words, kind-is, stop-idle}
 use borrow.Author.Needs.{needs}
 use Rattle.links.proofs.stop.Statement.{statement}
 use Rattle.links.proofs.stop.Tie as tie
@@ -25,9 +25,11 @@ returns : tie.Need-returns
 returns c =
     let kind = c .before .before .get in
     let start = c .before .before .before .before .before in
-    stop-idle (start .args .t .now) (start .args .i) (start .pre)
-    (λ k. subst (λ (n : ℕ). waitsIn k n ≡ false) (kind .ensures)
-    (in-none (kindAt (kind .result) .chain) k (same-stops (kind .result) (sym (c .before .stopped-kind .ensures) ∙ c .if1 .taken))))
+    let idle = same-stops (kind .result) (sym (c .before .stopped-kind .ensures) ∙ c .if1 .taken) in (
+      stop-idle (start .args .t .now) (start .args .i) (start .pre)
+          (λ k. subst (λ (n : ℕ). waitsIn k n ≡ false) (kind .ensures) (in-none (kindAt (kind .result) .chain) k idle)),
+      sym idle ∙ ap linked (kind .ensures ∙ sym (kind-is (start .args .t .now) (start .args .i) (start .pre))),
+    )
 
 chain-in-requires : tie.Need-chain-in-requires
 chain-in-requires c κs =
@@ -49,7 +51,12 @@ same-length-2 : tie.Need-same-length-2
 same-length-2 c = search needs
 
 returns-2 : tie.Need-returns-2
-returns-2 c = search needs
+returns-2 c =
+    let test = c .before .before .before .before .before in
+    let kind = test .before .before .get in
+    let start = test .before .before .before .before .before in
+    let in-some = other-stops (kind .result) (λ e. test .if1 .left (test .before .stopped-kind .ensures ∙ e)) in
+    (c .before .before .stop-in .ensures, sym in-some ∙ ap linked (kind .ensures ∙ sym (kind-is (start .args .t .now) (start .args .i) (start .pre))))
 
 pub stop-spec : {M : Type 1} → statement M
 stop-spec =

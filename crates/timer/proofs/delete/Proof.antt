@@ -46,7 +46,7 @@ stop-requires c κs = at (c .before .before) .place
 store-requires : tie.Need-store-requires
 store-requires c κs =
     let stop = c .before .before .before in
-    still-in-table (at (stop .before .before .before) .place) (stop .stop .ensures)
+    still-in-table (at (stop .before .before .before) .place) (stop .stop .ensures .0)
 
 same-length-2 : tie.Need-same-length-2
 same-length-2 c = search needs
@@ -56,7 +56,7 @@ returns-2 c =
     let stop = c .before .before .before .before .before .before in
     let o = stop .before .before .before in
     done _ _ (0 ∷ []) _ [] (at o .tested, (at o .rule, tt)) refl
-    (at-index (λ k. stopped (read (t o)) k free) (at o) (deleted-is (at o .place) (stop .stop .ensures) (c .before .before .store .ensures))) refl
+    (at-index (λ k. stopped (read (t o)) k free) (at o) (deleted-is (at o .place) (stop .stop .ensures .0) (c .before .before .store .ensures))) refl
 
 pub delete-spec : {M : Type 1} → statement M
 delete-spec =
