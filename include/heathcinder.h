@@ -109,7 +109,8 @@ uint32_t hc_create(uint32_t *table, size_t words, uint32_t name, uint32_t *id);
  * HC_INVALID_NAME: name 0, or no such name. */
 uint32_t hc_ident(const uint32_t *table, size_t words, uint32_t name, uint32_t *id);
 
-/* Stops a waiting timer, or takes a queued one off the queue. A periodic timer that fired still waits.
+/* Stops a waiting timer, or takes a queued one off the queue. A periodic timer that fired still waits, and a queued one was
+ * due already: of these two HC_SUCCESSFUL does not say that the cancel came in time.
  * HC_INVALID_ID: the id names no timer. HC_INCORRECT_STATE: the timer neither waits nor is queued; it fired already, was
  * cancelled, was handed out or never started, and nothing changes. */
 uint32_t hc_cancel(uint32_t *table, size_t words, uint32_t id);

@@ -128,7 +128,7 @@ module _ (t : List ℕ) (h : List Event) (g : SoundAndAgreeing t h) (c : Call) w
     lent-tick = λ list is. ap lentTo is;
     lent-set = λ w list is. ap lentTo is;
     lent-serve = λ list is. ap lentTo is;
-    cancels = λ id is known. outcome-status t c ∙ cancels-on t (g .is-sound) id c is known;
+    cancels = λ id is. outcome-status t c ∙ cancels-on t (g .is-sound) id c is;
     cancelled = λ id is e. cancelled-on t (g .is-sound) id c is (sym (outcome-status t c) ∙ e);
     restarts = λ id is e. restarts-now (sym (outcome-status t c) ∙ e) id is;
     left = λ id is e. left-now (sym (outcome-status t c) ∙ e) id is;

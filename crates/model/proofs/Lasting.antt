@@ -163,9 +163,10 @@ lasts-step words s (serverFireWhen d w r u) p id =
 lasts-step words s (serve list) p id = same-names s (handedOut s) (fired-slots (front s) (s .slots)) id
 
 -- 14 where the timer stands in no chain
-cancel-status : (linked : Bool) → _≡_ {A = ℕ} (cond (not linked) 14 0) (cond (eqb (cond linked 1 0) 0) 14 0)
-cancel-status true = refl
-cancel-status false = refl
+cancel-status : (named linked : Bool) → _≡_ {A = ℕ} (cond (not named) 4 (cond (not linked) 14 0)) (cond named (cond (eqb (cond linked 1 0) 0) 14 0) 4)
+cancel-status true true = refl
+cancel-status true false = refl
+cancel-status false linked = refl
 
 module _ (t : List ℕ) (ok : sound t ≡ true) where
   facts : (c : Call) → statusOn t c ≡ 0 → Accepted t (read t) c
@@ -185,10 +186,10 @@ module _ (t : List ℕ) (ok : sound t ≡ true) where
       subst (λ (d : Call). statusOn t d ≡ 0 → names (read t) (firstNumber (outcome t d .answer)) ≡ false) (sym is)
       (λ e. ap (λ (a : List ℕ). names (read t) (firstNumber a)) (answer-is (create name) e) ∙ created-anew (read t) (facts (create name) e .1))
 
-  pub cancels-on : (id : ℕ) (c : Call) → c ≡ cancel id → names (read t) id ≡ true → statusOn t c ≡ cond (eqb (timesLinked t (indexOf id)) 0) 14 0
-  cancels-on id c is known =
+  pub cancels-on : (id : ℕ) (c : Call) → c ≡ cancel id → statusOn t c ≡ cond (names (read t) id) (cond (eqb (timesLinked t (indexOf id)) 0) 14 0) 4
+  cancels-on id c is =
       ap (statusOn t) is ∙ status-is t (cancel id)
-      ∙ rw (ok, known, times-all (read t) (sound-holds t ok .chained) (indexOf id)) (cancel-status (linked (slotAt (read t .slots) (indexOf id) .kind)))
+      ∙ rw (ok, times-all (read t) (sound-holds t ok .chained) (indexOf id)) (cancel-status (names (read t) id) (linked (slotAt (read t .slots) (indexOf id) .kind)))
 
   pub cancelled-on : (id : ℕ) (c : Call) → c ≡ cancel id → statusOn t c ≡ 0
       → sumOf (λ _ l. timesIn l (indexOf id)) (read (outcome t c .table)) ≡ 0

@@ -74,9 +74,9 @@ workedCases =
     -- Create 3, 5; ident 3 twice; an id that names no timer: 4, before reset's 11; after the delete it is free again.
     ∷ calls (replicate 18 0)
     (layOut 1 10 ∷ create 0 ∷ ident 0 ∷ ident 1 ∷ cancel one ∷ delete one ∷ reset one ∷ ticksLeft one ∷ create 1 ∷ create 2 ∷ cancel two ∷ reset one
-    ∷ cancel one ∷ cancel one ∷ delete one ∷ delete one ∷ create 2 ∷ [])
-    (yes 0 ∷ no 3 ∷ no 3 ∷ no 3 ∷ no 4 ∷ no 4 ∷ no 4 ∷ no 4 ∷ yes one ∷ no 5 ∷ no 4 ∷ no 11 ∷ no 14 ∷ no 14 ∷ yes 0 ∷ no 4 ∷ yes one ∷ [])
-    (unlent 17) (1 ∷ 10 ∷ replicate 8 0 ++ (1 ∷ 2 ∷ replicate 6 0))
+    ∷ cancel one ∷ fireAfter one 5 7 70 ∷ cancel one ∷ cancel one ∷ delete one ∷ delete one ∷ create 2 ∷ [])
+    (yes 0 ∷ no 3 ∷ no 3 ∷ no 3 ∷ no 4 ∷ no 4 ∷ no 4 ∷ no 4 ∷ yes one ∷ no 5 ∷ no 4 ∷ no 11 ∷ no 14 ∷ yes 0 ∷ yes 0 ∷ no 14 ∷ yes 0 ∷ no 4 ∷ yes one ∷ [])
+    (unlent 19) (1 ∷ 10 ∷ replicate 8 0 ++ (1 ∷ 2 ∷ replicate 6 0))
     -- Fire after 10, 9, 4; fire when 11, 9, 20, 4; get clock 11, with seven zeros; 101 for a list of two words, which stays, before 20.
     ∷ calls (replicate 18 0)
     (layOut 1 10 ∷ fireAfter two 0 0 0 ∷ fireAfter two 1 0 0 ∷ fireAfter two 1 7 0 ∷ fireWhen two (date 1989 2 29 0 0 0) 0 0 ∷ getClock

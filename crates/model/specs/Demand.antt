@@ -97,8 +97,9 @@ pub record Answers (t : List ℕ) (es : List Event) (c : Call) (e : Event) : Typ
   pub lent-tick : (list : List ℕ) → c ≡ tick list → lentTo c ≡ list
   pub lent-set : (w : WallTime) (list : List ℕ) → c ≡ setClock w list → lentTo c ≡ list
   pub lent-serve : (list : List ℕ) → c ≡ serve list → lentTo c ≡ list
-  -- A cancel of a timer that is in no chain, neither waiting nor queued, is refused with 14. Any other is accepted, and the timer is in none then.
-  pub cancels : (id : ℕ) → c ≡ cancel id → names (read t) id ≡ true → outcome t c .status ≡ cond (eqb (timesLinked t (indexOf id)) 0) 14 0
+  -- A cancel whose id names no timer is refused with 4; of a timer that is in no chain, neither waiting nor queued, with 14. Any other is accepted,
+  -- and the timer is in none then.
+  pub cancels : (id : ℕ) → c ≡ cancel id → outcome t c .status ≡ cond (names (read t) id) (cond (eqb (timesLinked t (indexOf id)) 0) 14 0) 4
   pub cancelled : (id : ℕ) → c ≡ cancel id → outcome t c .status ≡ 0 → timesLinked (outcome t c .table) (indexOf id) ≡ 0
   -- An accepted reset is a start for ticks, that timer's last start again.
   pub restarts : (id : ℕ) → c ≡ reset id → outcome t c .status ≡ 0
