@@ -30,6 +30,7 @@ pub mod Agreement
 pub mod OutcomeLaws
 pub mod CallTables
 pub mod Lasting
+pub mod NextDue
 pub mod ListWords
 pub mod Demand3
 pub mod Readings

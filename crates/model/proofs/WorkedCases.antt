@@ -6,7 +6,7 @@ use mathlib.Core.Option.{some}
 use mathlib.Core.List.{List, [], _∷_, _++_, map}
 use lib.ListN.{replicate}
 use Rattle.calendar.specs.Calendar.{monthsOf, years, valid, secondsOf, dateOf}
-use Rattle.model.specs.Calls.{Call, layOut, create, ident, cancel, delete, fireAfter, fireWhen, fireEvery, reset, ticksLeft, tick, setClock, getClock, initiateServer, serverFireAfter, serverFireWhen, serve, callNumber}
+use Rattle.model.specs.Calls.{Call, layOut, create, ident, cancel, delete, fireAfter, fireWhen, fireEvery, reset, ticksLeft, tick, setClock, getClock, nextDue, initiateServer, serverFireAfter, serverFireWhen, serve, callNumber}
 use Rattle.model.specs.Sound.{headerSound, slotSound, chainSound, ticksSound, datesSound, queueSound, sound}
 use Rattle.model.specs.Outcome.{statusOn, outcome}
 use Rattle.model.specs.Kinds.{After, Every}

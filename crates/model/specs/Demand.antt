@@ -7,8 +7,8 @@ use mathlib.Core.List.{List, [], _∷_, _++_, map, reverse}
 use lib.ListN.{length, getD, take, replicate}
 use lib.Dec.{eqb}
 use Rattle.calendar.specs.declared.WallTime.{WallTime}
-use Rattle.model.specs.Lists.{keep, any, count, InOrder}
-use Rattle.model.specs.Calls.{Call, layOut, create, cancel, reset, ticksLeft, tick, setClock, serve, lentTo, answerCount}
+use Rattle.model.specs.Lists.{least, keep, any, count, InOrder}
+use Rattle.model.specs.Calls.{Call, layOut, create, cancel, reset, ticksLeft, tick, setClock, nextDue, serve, lentTo, answerCount}
 use Rattle.model.specs.Kinds.{Chain, ByTicks, ByDate, Queue, kindAt, chainFor}
 use Rattle.model.specs.State.{Slot, Link, slotAt, waitAt, indexOf, names, Fired, listed}
 use Rattle.model.specs.Words.{first, sumOf, word, along, links, read, slotCount, ticksPerSecond, clockSet, seconds, ticksInto, serverInitiated, previousOf}
@@ -106,6 +106,9 @@ pub record Answers (t : List ℕ) (es : List Event) (c : Call) (e : Event) : Typ
       → (s : Start) × (e ≡ changes id (some s)) × (s .id ≡ id) × (chainFor (s .mode) ≡ ByTicks) × (lastStart id es ≡ some s)
   -- Ticks left are those in the interval chain; 0 for a timer that is not there.
   pub left : (id : ℕ) → c ≡ ticksLeft id → outcome t c .status ≡ 0 → outcome t c .answer ≡ waitAt (indexOf id) (links ByTicks t) ∷ []
+  -- Next due is accepted, and answers the least ticks left over all waiting interval timers, 0 if none.
+  pub next : c ≡ nextDue
+      → (outcome t c .status ≡ 0) × (outcome t c .answer ≡ least (map ticksLeftOrDate (keep (inChain ByTicks) (keep waits (starts es)))) ∷ [])
   -- An id names a timer as long as it lasts; a create answers one that named none.
   pub lasts : outcome t c .status ≡ 0 → (id : ℕ)
       → names (read (outcome t c .table)) id ≡ lastsAfter c (firstNumber (outcome t c .answer)) id (names (read t) id)

@@ -6,7 +6,7 @@ use mathlib.Core.List.{List, [], _∷_, _++_, map}
 use lib.ListN.{length, take, drop, replicate}
 use lib.Dec.{eqb}
 use Rattle.model.specs.Status.{firstOf}
-use Rattle.model.specs.Calls.{Call, lentTo, answerCount}
+use Rattle.model.specs.Calls.{Call, isNextDue, lentTo, answerCount}
 use Rattle.model.specs.State.{Fired, listed}
 use Rattle.model.specs.Directives.{refusals, effect}
 use Rattle.model.specs.Words.{writtenOver, read}
@@ -38,11 +38,11 @@ entryWords (f ∷ fs) = f .id ∷ f .routine ∷ f .userData ∷ entryWords fs
 abbrev pub written : List Fired → List ℕ → List ℕ
 written fs list = entryWords fs ++ drop (length (entryWords fs)) list
 
--- where no rule applies, what the call does
+-- where no rule applies, what the call does. Next due, which may find what it reads in a table that is not sound, leaves every word.
 abbrev pub accepted : List ℕ → Call → Outcome
 accepted t c =
-    let e = effect (read t) c in
-    outcomeOf 0 (e .answer) (writtenOver (e .state) t) (written (map (listed (read t .slots)) (e .fired)) (lentTo c))
+    let e = effect t (read t) c in
+    outcomeOf 0 (e .answer) (cond (isNextDue c) t (writtenOver (e .state) t)) (written (map (listed (read t .slots)) (e .fired)) (lentTo c))
 
 -- Accepted means status 0; any other status is a refusal.
 unfoldable pub outcome : List ℕ → Call → Outcome
