@@ -1,5 +1,5 @@
 -- The proofs, in reading order: laws of lists, slots and chains; the words of a table and its soundness; what each call keeps; what a list of
--- calls means; demand 3 and its readings; the worked cases.
+-- calls means; next due's rules and what it answers; demand 3 and its readings; the worked cases.
 pub mod ListLaws
 pub mod StatusLaws
 pub mod Order
@@ -30,6 +30,7 @@ pub mod Agreement
 pub mod OutcomeLaws
 pub mod CallTables
 pub mod Lasting
+pub mod NextDueRules
 pub mod NextDue
 pub mod ListWords
 pub mod Demand3
@@ -40,3 +41,4 @@ pub mod Cases
 pub mod WorkedCases
 pub mod ServerCases
 pub mod EveryKind
+pub mod NextDueCases

@@ -7,7 +7,7 @@ use mathlib.Core.Bool.{Bool, true, false, cond, not, _||_}
 use mathlib.Core.List.{List, [], _∷_, map}
 use lib.ListN.{length}
 use lib.Dec.{leb, ltb, eqb}
-use borrow.Author.Tests.{leb-true, leb-false, le-leb, lt-ltb, eq-eqb, ne-eqb, eqb-true, eqb-false}
+use borrow.Author.Tests.{leb-true, leb-false, lt-ltb, eq-eqb, ne-eqb, eqb-true, eqb-false}
 use Rattle.calendar.specs.Calendar.{allOf}
 use Rattle.model.specs.Lists.{least, keep, any, place, All, Sorted}
 use Rattle.model.specs.Status.{firstOf}
@@ -120,6 +120,10 @@ one-link t (suc n) (suc i) p q =
 
 -- ---- on a sound table
 
+sure : (b : Bool) → (b ≡ false → ⊥) → b ≡ true
+sure true h = refl
+sure false h = absurd (h refl)
+
 module _ (t : List ℕ) (ok : sound t ≡ true) where
   abbrev i : ℕ
   i = firstTicking t
@@ -175,10 +179,13 @@ module _ (t : List ℕ) (ok : sound t ≡ true) where
   tests-pass high waits wait =
       let h = sound-header t ok in
       all-true (firstTests t) (
-        le-leb 10 (length t) (omega (arith, h .long)),
+        sure _ (λ e. omega (arith, leb-false, h .long)),
         (
-          le-leb (10 + 8 * slotCount t) (length t) (h .long),
-          (le-leb 1 (slotCount t) (h .some-slot), (le-leb (slotCount t) 255 (h .few), (le-leb i (slotCount t) high, (waits, (wait, tt))))),
+          sure _ (λ e. omega (arith, leb-false, h .long)),
+          (
+            sure _ (λ e. omega (arith, leb-false, h .some-slot)),
+            (sure _ (λ e. omega (arith, leb-false, h .few)), (sure _ (λ e. omega (arith, leb-false, high)), (waits, (wait, tt)))),
+          ),
         ),
       )
 

@@ -158,9 +158,9 @@ worked = refl
 
 pub numbered : map callNumber
     (layOut 1 10 ∷ create 1 ∷ ident 1 ∷ cancel 1 ∷ delete 1 ∷ fireAfter 1 1 1 1 ∷ fireWhen 1 (date 2000 1 1 0 0 0) 1 1 ∷ reset 1 ∷ ticksLeft 1 ∷ tick []
-    ∷ setClock (date 2000 1 1 0 0 0) [] ∷ getClock ∷ fireEvery 1 1 1 1 ∷ initiateServer ∷ serverFireAfter 1 1 1 1 ∷ serverFireWhen 1 (date 2000 1 1 0 0 0) 1 1
+    ∷ setClock (date 2000 1 1 0 0 0) [] ∷ getClock ∷ fireEvery 1 1 1 1 ∷ nextDue ∷ initiateServer ∷ serverFireAfter 1 1 1 1 ∷ serverFireWhen 1 (date 2000 1 1 0 0 0) 1 1
     ∷ serve [] ∷ [])
-    ≡ 1 ∷ 2 ∷ 3 ∷ 4 ∷ 5 ∷ 6 ∷ 7 ∷ 8 ∷ 9 ∷ 10 ∷ 11 ∷ 12 ∷ 13 ∷ 15 ∷ 16 ∷ 17 ∷ 18 ∷ []
+    ≡ 1 ∷ 2 ∷ 3 ∷ 4 ∷ 5 ∷ 6 ∷ 7 ∷ 8 ∷ 9 ∷ 10 ∷ 11 ∷ 12 ∷ 13 ∷ 14 ∷ 15 ∷ 16 ∷ 17 ∷ 18 ∷ []
 numbered = refl
 
 -- ---- the order among equals
