@@ -30,7 +30,6 @@ pub mod Agreement
 pub mod OutcomeLaws
 pub mod CallTables
 pub mod Lasting
-pub mod NextDueRules
 pub mod NextDue
 pub mod ListWords
 pub mod Demand3
