@@ -10,6 +10,7 @@
 #include <string.h>
 
 enum { WORDS = HC_TABLE_WORDS(MAX_SLOTS), LIST = HC_LIST_WORDS(MAX_SLOTS), RATE = 100, ROUTINE_NUMBER = 7, NEW_NAME = 7777 };
+enum { MANY = 100 };    /* calls of next due in a row */
 #define ID(index) (ID_BASE + (index))
 
 /* ---- The sides ---- */
@@ -106,7 +107,14 @@ static uint32_t do_fire_every(const struct side *s)
 static uint32_t do_reset(const struct side *s) { return s->reset(table, words, ID(idle)); }
 static uint32_t do_ticks_left(const struct side *s) { return s->ticks_left(table, words, ID(ticking), &answer); }
 static uint32_t do_last_ticks_left(const struct side *s) { return s->ticks_left(table, words, ID(ticking_last), &answer); }
-static uint32_t do_next_due(const struct side *s) { return s->next_due(table, words, &answer); }
+/* One is too short for the clock that times it, and takes no longer than the way into it: here that counts too. */
+static uint32_t do_next_due(const struct side *s)
+{
+    uint32_t status = HC_SUCCESSFUL, times = s == &nothing ? 1 : MANY;
+    for (uint32_t i = 0; i < times; i++)
+        status |= s->next_due(table, words, &answer);
+    return status;
+}
 static uint32_t do_tick(const struct side *s) { return s->tick(table, words, list, LIST, &answer); }
 static uint32_t do_set_clock(const struct side *s) { return s->set_clock(table, words, &dates[dated], list, LIST, &answer); }
 static uint32_t do_get_clock(const struct side *s) { return s->get_clock(table, words, &now_answer); }
@@ -402,9 +410,9 @@ static const struct bench {
     {"fire_after behind all (full)", do_fire_after, &full, NULL}, {"fire_when", do_fire_when, &mixed, NULL},
     {"fire_every", do_fire_every, &mixed, NULL}, {"reset", do_reset, &mixed, NULL},
     {"reset, periodic", do_reset, &mixed, idle_is_periodic}, {"ticks_left", do_ticks_left, &mixed, NULL},
-    {"ticks_left of the last (full)", do_last_ticks_left, &full, NULL}, {"next_due", do_next_due, &mixed, NULL},
-    {"next_due (full)", do_next_due, &full, NULL}, {"next_due, none waits for ticks (server dated)", do_next_due, &server_dated, NULL},
-    {"tick", do_tick, &mixed, NULL},
+    {"ticks_left of the last (full)", do_last_ticks_left, &full, NULL}, {"tick", do_tick, &mixed, NULL},
+    {"next_due, 100 times", do_next_due, &mixed, NULL}, {"next_due, 100 times (full)", do_next_due, &full, NULL},
+    {"next_due, none waits for ticks, 100 times (server dated)", do_next_due, &server_dated, NULL},
     {"tick, a timer fires", do_tick, &mixed, next_tick_fires},
     {"tick, a periodic timer fires", do_tick, &mixed, next_tick_fires_again},
     {"tick, a dated timer fires", do_tick, &mixed, next_tick_is_a_date}, {"tick, all fire (due)", do_tick, &due, NULL},
