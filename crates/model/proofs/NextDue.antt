@@ -2,31 +2,34 @@
 -- the first of the interval chain, along which ticks left never fall, so what is read there is the least ticks left over all waiting interval timers, of
 -- the table's slots and of the history's starts. Assumes nothing.
 use mathlib.Core.Path.{_≡_, refl, sym, ap, ap₂, _∙_, subst}
-use Prim.Native.Nat.{ℕ, zero, suc, _+_, _*_, _≤_, _<_, min}
+use Prim.Native.Nat.{ℕ, zero, suc, _+_, _-_, _*_, _≤_, _<_, min}
 use native.Mathlib.Omega.{arith}
 use mathlib.Core.Bool.{Bool, true, false, cond, not, _||_}
-use mathlib.Core.List.{List, [], _∷_, _++_, map}
+use mathlib.Core.List.{List, [], _∷_, _++_, map, head-eq-of-cons-eq}
 use lib.ListN.{length, replicate}
 use lib.Dec.{leb, ltb, eqb}
-use borrow.Author.Tests.{leb-true, leb-false, lt-ltb, eq-eqb, ne-eqb, eqb-true, eqb-false}
+use borrow.Author.Tests.{leb-true, leb-false, lt-leb, lt-ltb, eq-eqb, ne-eqb, eqb-true, eqb-false}
 use Rattle.calendar.specs.Calendar.{allOf}
 use Rattle.model.specs.Lists.{least, keep, any, every, place, All, Sorted}
 use Rattle.model.specs.Status.{firstOf}
-use Rattle.model.specs.Calls.{ticksLeft, nextDue}
-use Rattle.model.specs.Kinds.{ByTicks, waitsIn}
-use Rattle.model.specs.State.{Slot, Link, slotAt, waitAt, idBase, indexOf}
-use Rattle.model.specs.Words.{linksFrom, links, read, slotCount, firstTicking, kindOf, waitOf, nextOf, slotFrom}
+use Rattle.model.specs.Calls.{ticksLeft, tick, nextDue}
+use Rattle.model.specs.Kinds.{ByTicks, ByDate, waitsIn}
+use Rattle.model.specs.State.{Slot, Link, State, withChain, withClock, slotAt, waitAt, idBase, indexOf}
+use Rattle.model.specs.Words.{first, writtenOver, linksFrom, links, read, slotCount, firstTicking, kindOf, waitOf, nextOf, slotFrom}
 use Rattle.model.specs.Sound.{headerSound, slotSound, chainSound, ticksSound, datesSound, queueSound, sound}
-use Rattle.model.specs.Directives.{firstTests, firstWait, refusals}
+use Rattle.model.specs.Directives.{firstTests, firstWait, refusals, firedAll, goOn, due, fire, closer, nearer, clockStep}
 use Rattle.model.specs.Outcome.{Outcome, outcomeOf, statusOn, outcome}
 use Rattle.model.specs.Demand.{firstNumber}
 use Rattle.model.specs.NextDue.{slotsUp, waitingForTicks, ticksLeftOf, NextDueIsLeast, SameFirst, NextDueReadsOneSlot}
-use Rattle.model.proofs.ListLaws.{cases, clash, or-else, or-left, or-right, all-true, all-map, all-keep, all-passed, all-zip, all-mapped, keep-none}
+use Rattle.model.proofs.ListLaws.{cases, clash, or-else, or-left, or-right, all-true, all-map, all-keep, all-passed, all-zip, all-mapped, keep-all, keep-none}
 use Rattle.model.proofs.Order.{orderOn, order}
 use Rattle.model.proofs.WellFormed.{timesIn}
 use Rattle.model.proofs.Chains.{times-own, in-slots}
-use Rattle.model.proofs.ReadBack.{slots-length, slot-read}
-use Rattle.model.proofs.SoundHolds.{sound-header, sound-well-formed}
+use Rattle.model.proofs.ReadBack.{slots-length, slot-read, links-is}
+use Rattle.model.proofs.SoundHolds.{sound-header, sound-holds, sound-well-formed}
+use Rattle.model.proofs.KindLaws.{dated-not-again}
+use Rattle.model.proofs.Steps.{fire-elsewhere, chained-fire, chained-nearer, chained-with-clock}
+use Rattle.model.proofs.CallTables.{table-left, effect-holds, effect-sound}
 use Rattle.model.proofs.AcceptedCalls.{Named, facts-accepted, accepted-facts}
 use Rattle.model.proofs.OutcomeLaws.{status-is, outcome-accepted, outcome-refused, outcome-status}
 
@@ -357,3 +360,70 @@ next-due-reads-one-slot t u same =
       ap (λ (o : Outcome). o .table) o,
       ap (λ (o : Outcome). o .list) o,
     ))
+
+-- ---- what may be slept through
+
+all-from-first : (l : List Link) → Sorted (λ w. w .wait) l → All (λ w. firstBy (λ v. v .wait) l ≤ w .wait) l
+all-from-first [] h = tt
+all-from-first (w ∷ ws) h = (omega arith, h .0)
+
+module _ (t : List ℕ) (ok : sound t ≡ true) (list : List ℕ) (ticked : outcome t (tick list) .status ≡ 0) where
+  abbrev now : State
+  now = read t
+
+  accepted : statusOn t (tick list) ≡ 0
+  accepted = sym (outcome-status t (tick list)) ∙ ticked
+
+  answer-is : outcome t nextDue .answer ≡ firstWait t ∷ []
+  answer-is = ap (λ (o : Outcome). o .answer) (outcome-accepted t nextDue (next-due-accepted t ok))
+
+  -- every wait of the chain is at least what is answered
+  high : (n : ℕ) → outcome t nextDue .answer ≡ n ∷ [] → All (λ w. n ≤ w .wait) (now .ticking)
+  high n e =
+      let first : firstBy (λ w. w .wait) (now .ticking) ≡ n = sym (first-read t ok) ∙ head-eq-of-cons-eq (sym answer-is ∙ e) in
+      subst (λ (m : ℕ). All (λ w. m ≤ w .wait) (now .ticking)) first (all-from-first (now .ticking) (sound-well-formed t ok .chained .rises ByTicks))
+
+  -- Where next due answers two or more, an accepted tick neither fires nor queues an interval timer: all of them wait on, a tick nearer.
+  pub sleeps-through : (n : ℕ) → outcome t nextDue .answer ≡ suc (suc n) ∷ [] → links ByTicks (outcome t (tick list) .table) ≡ map closer (links ByTicks t)
+  sleeps-through n e =
+      let near = nearer now in
+      let clock = clockStep (now .clock) in
+      let near-chained = chained-nearer now (sound-holds t ok .chained) in
+      let later = withClock (fire ByTicks 0 near) clock in
+      let none : due ByTicks 0 near ≡ [] =
+      keep-none (λ w. leb (w .wait) 0) (near .ticking) (all-mapped closer (λ w. leb (w .wait) 0 ≡ false) (now .ticking)
+      (all-map (λ w p. lt-leb (w .wait - 1) 0 (omega (arith, p))) (now .ticking) (high (suc (suc n)) e))) in
+      let all : keep (λ w. ltb 0 (w .wait)) (near .ticking) ≡ near .ticking =
+      keep-all (λ w. ltb 0 (w .wait)) (near .ticking) (all-mapped closer (λ w. ltb 0 (w .wait) ≡ true) (now .ticking)
+      (all-map (λ w p. lt-ltb 0 (w .wait - 1) (omega (arith, p))) (now .ticking) (high (suc (suc n)) e))) in
+      ap (links ByTicks) (table-left t ok (tick list) accepted)
+      ∙ links-is (writtenOver (fire ByDate (clock .second) later) t) (fire ByDate (clock .second) later) (effect-holds t ok (tick list) accepted) ByTicks
+      ∙ fire-elsewhere ByDate (clock .second) later
+      (chained-with-clock (fire ByTicks 0 near) clock (chained-fire ByTicks 0 near near-chained)) ByTicks dated-not-again refl
+      ∙ ap (λ (d : List Link). goOn d (withChain ByTicks near (firedAll d (near .slots)) (keep (λ w. ltb 0 (w .wait)) (near .ticking))) .ticking) none
+      ∙ all
+
+  -- And then it answers one less.
+  pub next-due-falls : (n : ℕ) → outcome t nextDue .answer ≡ suc (suc n) ∷ [] → outcome (outcome t (tick list) .table) nextDue .answer ≡ suc n ∷ []
+  next-due-falls n e =
+      let u = outcome t (tick list) .table in
+      let fine : sound u ≡ true = ap sound (table-left t ok (tick list) accepted) ∙ effect-sound t ok (tick list) accepted in
+      let first : firstBy (λ w. w .wait) (now .ticking) ≡ suc (suc n) = sym (first-read t ok) ∙ head-eq-of-cons-eq (sym answer-is ∙ e) in
+      ap (λ (o : Outcome). o .answer) (outcome-accepted u nextDue (next-due-accepted u fine))
+      ∙ ap {B = List ℕ} (λ (m : ℕ). m ∷ [])
+      (first-read u fine ∙ ap (firstBy (λ w. w .wait)) (sleeps-through n e) ∙ first-map (λ w. w .wait) closer (now .ticking) ∙ one-less (now .ticking) first)
+    where
+      one-less : (l : List Link) → firstBy (λ w. w .wait) l ≡ suc (suc n) → firstBy (λ w. w .wait - 1) l ≡ suc n
+      one-less [] e = absurd (omega arith)
+      one-less (w ∷ ws) e = omega arith
+
+  -- Where it answers 1, the timer in word 5 is the first that is due in the tick.
+  pub wakes : outcome t nextDue .answer ≡ 1 ∷ [] → first (due ByTicks 0 (nearer now)) ≡ firstTicking t
+  wakes e =
+      let wait : firstWait t ≡ 1 = head-eq-of-cons-eq (sym answer-is ∙ e) in
+      cases (eqb (firstTicking t) 0)
+      (λ z. absurd (omega (arith, let none : firstWait t ≡ 0 = rw z in none, wait)))
+      (λ z.
+      let f = first-slot t ok (eqb-false (firstTicking t) 0 z) in
+      let now-due : waitOf t (firstTicking t) ≡ 1 = sym (let is : firstWait t ≡ waitOf t (firstTicking t) = rw z in is) ∙ wait in
+      ap (λ (l : List Link). first (keep (λ w. leb (w .wait) 0) (map closer l))) (f .is) ∙ rw now-due)
