@@ -25,7 +25,7 @@ one-later n (laidOutFor t ∷ h) = refl
 one-later n (changes i s ∷ h) = one-later n h
 one-later n (deletes i ∷ h) = one-later n h
 one-later n (oneTick ∷ h) = one-later (suc n) h
-one-later n (clockSetTo d ∷ h) = ap {B = Option ℕ} some (omega arith)
+one-later n (clockSetTo d m ∷ h) = ap {B = Option ℕ} some (omega arith)
 one-later n (initiates ∷ h) = one-later n h
 one-later n (servesFront ∷ h) = one-later n h
 one-later n (nothing ∷ h) = one-later n h

@@ -5,6 +5,7 @@ use mathlib.Core.Bool.{true, false, cond}
 use mathlib.Core.Option.{none, some}
 use mathlib.Core.List.{List, [], _∷_, _++_, map, reverse}
 use lib.ListN.{length, getD, take, replicate}
+use lib.IntN.{pos}
 use lib.Dec.{eqb}
 use Rattle.calendar.specs.declared.WallTime.{WallTime}
 use Rattle.model.specs.Lists.{keep, any, count, InOrder}
@@ -13,8 +14,8 @@ use Rattle.model.specs.Kinds.{Chain, ByTicks, ByDate, Queue, kindAt, cha
 use Rattle.model.specs.State.{Slot, Link, slotAt, waitAt, indexOf, names, Fired, listed}
 use Rattle.model.specs.Words.{first, sumOf, word, along, links, read, slotCount, ticksPerSecond, clockSet, seconds, ticksInto, serverInitiated, previousOf}
 use Rattle.model.specs.Sound.{sound}
-use Rattle.model.specs.Outcome.{outcome}
-use Rattle.model.specs.History.{Start, Event, changes, lastStart, lastsAfter, Placed, Waiting, eventOf, eventsOn, perSecond, clockAfter, movesClock, starts, waits, fires, inChain, ticksLeftOrDate, waiting, entryOf, entry, isInitiated, servesIn, IsQueue, queuedAs, ends, serves, takenOff}
+use Rattle.model.specs.Outcome.{outcome, movement}
+use Rattle.model.specs.History.{Start, Event, changes, lastStart, lastsAfter, Placed, Waiting, eventOf, eventsOn, perSecond, clockAfter, newMinusOld, movesClock, starts, waits, fires, inChain, ticksLeftOrDate, waiting, entryOf, entry, isInitiated, servesIn, IsQueue, queuedAs, ends, serves, takenOff}
 
 -- Each call gets the table that the last one left.
 abbrev pub after : List ℕ → List Call → List ℕ
@@ -104,6 +105,10 @@ pub record Answers (t : List ℕ) (es : List Event) (c : Call) (e : Event) : Typ
   -- An accepted reset is a start for ticks, that timer's last start again.
   pub restarts : (id : ℕ) → c ≡ reset id → outcome t c .status ≡ 0
       → (s : Start) × (e ≡ changes id (some s)) × (s .id ≡ id) × (chainFor (s .mode) ≡ ByTicks) × (lastStart id es ≡ some s)
+  -- An accepted set clock answers how far the clock moved; a refused one 0.
+  pub moves : (w : WallTime) (list : List ℕ) → c ≡ setClock w list → outcome t c .status ≡ 0
+      → movement t w list ≡ newMinusOld (clockAfter 0 es) (clockAfter 0 (e ∷ es))
+  pub stays : (w : WallTime) (list : List ℕ) → c ≡ setClock w list → (outcome t c .status ≡ 0 → ⊥) → movement t w list ≡ pos 0
   -- Ticks left are those in the interval chain; 0 for a timer that is not there.
   pub left : (id : ℕ) → c ≡ ticksLeft id → outcome t c .status ≡ 0 → outcome t c .answer ≡ waitAt (indexOf id) (links ByTicks t) ∷ []
   -- An id names a timer as long as it lasts; a create answers one that named none.
