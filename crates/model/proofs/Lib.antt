@@ -37,5 +37,6 @@ pub mod CallReadings
 pub mod QueueReadings
 pub mod Cases
 pub mod WorkedCases
+pub mod ClockCases
 pub mod ServerCases
 pub mod EveryKind
