@@ -64,11 +64,11 @@ pub fn tick(table: &mut [u32], fired: &mut [u32]) -> Answer
 }
 
 // A second, so many ticks into it, counted in ticks.
-fn in_ticks(per_second: u32, second: u32, ticks: u32) -> u64
-    requires { ⌜ per_second ≤ 1000 ⌝ }
-    ensures { λ r. ⌜ (r ≡ second * per_second + ticks) × (r < 2 ^ 63) ⌝ }
+fn in_ticks(rate: u32, second: u32, ticks: u32) -> u64
+    requires { ⌜ rate ≤ 1000 ⌝ }
+    ensures { λ r. ⌜ (r ≡ second * rate + ticks) × (r < 2 ^ 63) ⌝ }
 {
-    (second as u64) * (per_second as u64) + (ticks as u64)
+    (second as u64) * (rate as u64) + (ticks as u64)
 }
 
 // New minus old, below zero when set back.
@@ -87,9 +87,9 @@ fn move_to(table: &[u32], second: u32, ticks: u32) -> i64
     if table[CLOCK_SET] != 1 {
         return 0;
     }
-    let per_second = table[TICKS_PER_SECOND];
-    let old = in_ticks(per_second, table[SECONDS], table[TICKS]);
-    let new = in_ticks(per_second, second, ticks);
+    let rate = table[TICKS_PER_SECOND];
+    let old = in_ticks(rate, table[SECONDS], table[TICKS]);
+    let new = in_ticks(rate, second, ticks);
     difference(new, old)
 }
 
