@@ -36,17 +36,20 @@ uint64_t number_argument(int count, char **arguments, int which, uint64_t otherw
 
 static uint64_t random_state;
 
-static void random_seed(uint64_t seed)
-{
-    random_state = seed * 0x9e3779b97f4a7c15u + 0x6a09e667f3bcc909u;
-}
-
 uint32_t random_word(void)
 {
     uint64_t z = random_state += 0x9e3779b97f4a7c15u;
     z = (z ^ z >> 30) * 0xbf58476d1ce4e5b9u;
     z = (z ^ z >> 27) * 0x94d049bb133111ebu;
     return (uint32_t)(z >> 32);
+}
+
+/* States of two seeds must not be a few steps apart: the numbers would be the same ones, a few later. */
+static void random_seed(uint64_t seed)
+{
+    random_state = seed;
+    uint64_t high = random_word();
+    random_state = high << 32 | random_word();
 }
 
 uint32_t below(uint32_t limit)
