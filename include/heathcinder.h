@@ -94,7 +94,8 @@ struct hc_wall_time {
 
 /* Each call gives its status as the result: HC_NOT_SOUND where the table is not sound (but for hc_lay_out), then the
  * first that applies in the order named with the call, else HC_SUCCESSFUL. The answer of a call on a table goes through the
- * last pointer, and hc_set_clock's two through the last two; on a refusal it is 0, and table and list stay as they were. */
+ * last pointer, and the two of hc_set_clock through the last two; on a refusal they are 0, and table and list stay as they
+ * were. */
 
 /* Makes a table of so many free slots, clock not set, server not initiated; words is the length lent.
  * HC_INVALID_NUMBER: slots not 1 to 255, or ticks_per_second not 1 to 1000. HC_INVALID_SIZE: fewer than
@@ -161,7 +162,7 @@ uint32_t hc_tick(uint32_t *table, size_t words, uint32_t *fired, size_t fired_wo
 /* Sets the clock to the second given, as many ticks into it as the ticks field says. Dated timers at or before that second
  * fire now, listed as by hc_tick, and those of the server are queued. Interval timers do not change, and a clock set back
  * moves no date. Answers how many are listed, and how far the clock moved: new minus old in ticks, below 0 where it was set
- * back, and 0 where it was not set before.
+ * back, and 0 the first time since the lay out.
  * HC_LIST_TOO_SHORT: fewer than HC_LIST_WORDS(N) words of list. HC_INVALID_CLOCK: date not valid, or ticks of T or more. */
 uint32_t hc_set_clock(uint32_t *table, size_t words, const struct hc_wall_time *now, uint32_t *fired,
                       size_t fired_words, uint32_t *count, int64_t *moved);

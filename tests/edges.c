@@ -844,6 +844,12 @@ static void order_of_set_clock(void)
     set_clock_is_refused("set clock, ticks 4294967295", 20, with_ticks(noon, 4294967295u));
     set_clock_is_refused("set clock, ticks 2147483648", 20, with_ticks(noon, 2147483648u));
     set_clock_is_refused("set clock, ticks 65536", 20, with_ticks(noon, 65536));
+    list_length = LIST - 1;
+    set_clock_is_refused("set clock past a date, a word of list too few", 101, at(2000, 1, 1, 13, 0, 0));
+    list_length = LIST, table[HEADER_ZERO] = 1;
+    set_clock_is_refused("set clock past a date, not sound", 100, at(2000, 1, 1, 13, 0, 0));
+    table[HEADER_ZERO] = 0;
+    set_clock_is_refused("set clock, no such date", 20, never);
     clock_is(0, 9);
 }
 
