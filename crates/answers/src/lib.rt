@@ -17,7 +17,7 @@ pub enum Reading {
     Unread(Status),
 }
 
-// What set clock answers: how many timers fired, or refused; and how far the clock moved, in ticks.
+// What set clock answers: how many timers fired, or refused; and how far the clock moved, in ticks, 0 where it is refused.
 pub struct Setting {
     pub answer: Answer,
     pub moved: i64,

@@ -22,7 +22,7 @@ use Rattle.model.specs.declared.Chain.the-variants.{ByDate}
 use Rattle.model.specs.Lists.{All}
 use Rattle.model.specs.Status.{numberOf}
 use Rattle.model.specs.Calls.{tick, setClock}
-use Rattle.model.specs.Directives.{noClock, clockAt, clockStep, movedBy, numbers}
+use Rattle.model.specs.Directives.{notSettable, clockAt, clockStep, movedBy, numbers}
 use Rattle.model.specs.Words.{read, ticksPerSecond, seconds, ticksInto}
 use Rattle.model.specs.Sound.{sound}
 use Rattle.model.specs.Outcome.{Outcome, outcomeOf, statusOn, outcome, movement}
@@ -51,13 +51,13 @@ module _ (t : List ℕ) where
 
 -- the date is not valid, or its ticks are T or more; or neither
 module _ (t : List ℕ) (w : WallTime) where
-  pub not-valid : {i : Instant} → i ≡ instantOf w → i ≡ NotValid → noClock (read t) w ≡ true
+  pub not-valid : {i : Instant} → i ≡ instantOf w → i ≡ NotValid → notSettable (read t) w ≡ true
   not-valid e n = ap (λ (b : Bool). not (b && ltb (w .ticks) (ticksPerSecond t))) (not-valid-answer w e n)
 
-  pub too-many-ticks : ticksPerSecond t ≤ w .ticks → noClock (read t) w ≡ true
+  pub too-many-ticks : ticksPerSecond t ≤ w .ticks → notSettable (read t) w ≡ true
   too-many-ticks h = cases (valid w) (λ e. rw (e, le-ltb (w .ticks) (ticksPerSecond t) h)) (λ e. rw e)
 
-  pub is-clock : {s : ℕ} {i : Instant} → i ≡ instantOf w → i ≡ Second s → w .ticks < ticksPerSecond t → noClock (read t) w ≡ false
+  pub is-clock : {s : ℕ} {i : Instant} → i ≡ instantOf w → i ≡ Second s → w .ticks < ticksPerSecond t → notSettable (read t) w ≡ false
   is-clock {s} e n h =
       ap not
       (and-both (valid w) (ltb (w .ticks) (ticksPerSecond t)) (second-answer w s e n .is-valid) (lt-ltb (w .ticks) (ticksPerSecond t) h))
@@ -88,7 +88,7 @@ opening-refused t w list {r = r} {s = s} opens e =
 
 -- a date that is not valid, or ticks of T or more
 pub clock-refused : (t : List ℕ) (w : WallTime) (list : List ℕ)
-    → All (λ r. r .given ≡ false) (take 2 (rules t (setClock w list))) → noClock (read t) w ≡ true
+    → All (λ r. r .given ≡ false) (take 2 (rules t (setClock w list))) → notSettable (read t) w ≡ true
     → (outcomeOf (numberOf InvalidClock) (0 ∷ []) t list ≡ outcome t (setClock w list)) × (pos 0 ≡ movement t w list)
 clock-refused t w list first given =
     let o : outcomeOf (numberOf InvalidClock) (0 ∷ []) t list ≡ outcome t (setClock w list) =

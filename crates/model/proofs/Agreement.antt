@@ -16,7 +16,7 @@ use Rattle.model.specs.Calls.{Call, layOut, create, ident, cancel, delet
 use Rattle.model.specs.Kinds.{Chain, ByTicks, ByDate, Queue, After, When, Every, ServerAfter, ServerWhen, kindAt, chainFor, forServer, lastMode}
 use Rattle.model.specs.State.{Link, State, free, slotAt, indexOf, Fired, listed}
 use Rattle.model.specs.Directives.{refusals, lowestFree, neverStarted, idled, effect, clockAt, movedBy}
-use Rattle.model.specs.History.{Start, startOf, Event, laidOutFor, changes, deletes, oneTick, clockSetTo, initiates, servesFront, nothing, lastStart, eventOf, clockAfter, newMinusOld, movesClock, Placed, entryOf, entry, Waiting, servesIn, queuedAs}
+use Rattle.model.specs.History.{Start, startOf, Event, laidOutFor, changes, deletes, oneTick, clockSetTo, initiates, servesFront, nothing, lastStart, eventOf, clockAfter, movesClock, Placed, entryOf, entry, Waiting, servesIn, queuedAs}
 use Rattle.model.specs.Demand.{shown}
 use Rattle.model.proofs.ListLaws.{clash}
 use Rattle.model.proofs.WellFormed.{WellFormed}
@@ -26,6 +26,7 @@ use Rattle.model.proofs.Searches.{found}
 use Rattle.model.proofs.AcceptedCalls.{accepted-facts}
 use Rattle.model.proofs.HistoryLaws.{firingIn, none-due}
 use Rattle.model.proofs.Simulation.{Remembers, Agrees, no-start, on-nothing, on-initiate, on-stored, on-lay-out, on-serve, on-stop, on-delete, on-start}
+use Rattle.model.proofs.ClockLaws.{apart}
 use Rattle.model.proofs.ClockSimulation.{on-set-clock, set-clock-lists, set-clock-moves, on-tick, tick-lists}
 
 module _ (s : State) (h : List Event) (v : Agrees s h) (f : WellFormed s) (words : List ℕ) where
@@ -200,7 +201,7 @@ module _ (s : State) (h : List Event) (v : Agrees s h) (f : WellFormed s) (words
 
   -- a set clock answers how far the clock moved
   pub moves-by : (w : WallTime) (list : List ℕ) → firstOf (refusals words s (setClock w list)) ≡ 0
-      → movedBy (s .clock) (clockAt (s .clock) (secondsOf w) (w .ticks)) ≡ newMinusOld (clockAfter 0 h) (clockAfter 0 (eventOf h (setClock w list) ∷ h))
+      → movedBy (s .clock) (clockAt (s .clock) (secondsOf w) (w .ticks)) ≡ apart (clockAfter 0 h) (clockAfter 0 (eventOf h (setClock w list) ∷ h))
   moves-by w list e =
       let p = accepted-facts words s (setClock w list) e in set-clock-moves s h v f (secondsOf w) (seconds-in-range w (p .1)) (w .ticks) (p .2)
 

@@ -14,7 +14,7 @@ use Rattle.model.specs.Kinds.{Chain, ByTicks, ByDate, Queue, Mode, kindA
 use Rattle.model.specs.State.{Slot, Link, Clock, State, chainOf, withClock, slotAt, idBase, Fired, listed}
 use Rattle.calendar.specs.Calendar.{lastSecond}
 use Rattle.model.specs.Directives.{firedAll, due, fire, withoutServer, closer, nearer, clockAt, clockStep, ticked, clockMoved, movedBy}
-use Rattle.model.specs.History.{Start, Event, oneTick, clockSetTo, startIn, perSecond, clockAfter, newMinusOld, atLeast, past, movesClock, ends, Placed, placed, inChain, entry, Waiting, waiting, queuedAs}
+use Rattle.model.specs.History.{Start, Event, oneTick, clockSetTo, startIn, perSecond, clockAfter, atLeast, past, movesClock, ends, Placed, placed, inChain, entry, Waiting, waiting, queuedAs}
 use Rattle.model.specs.Demand.{shown}
 use Rattle.model.proofs.ListLaws.{cases, clash, all, all-map, keep-append, keep-map, keep-on, keep-and, map-on, not-leb}
 use Rattle.model.proofs.Order.{orderOn, map-orderOn}
@@ -27,7 +27,7 @@ use Rattle.model.proofs.ClockSteps.{clock-unset, clock-isSet, clock-per
 use Rattle.model.proofs.HistoryLaws.{dueNow, lowered, renewed, fresh, chainFrom, remains, returns, dueOf, firingIn, queuingIn, chain-due, none-dated-back, sized-more}
 use Rattle.model.proofs.ChainLaws.{map-same, chain-moved, chain-calm}
 use Rattle.model.proofs.QueueLaws.{newly, toQueue, queue-moved, queued-shown}
-use Rattle.model.proofs.ClockLaws.{onward, one-later, standing, at-or-past, step-onward}
+use Rattle.model.proofs.ClockLaws.{onward, one-later, standing, at-or-past, step-onward, apart}
 use Rattle.model.proofs.Simulation.{shown-memo, Remembers, Stands, Agrees, kept-all, kept-none}
 
 -- how the timer of a link was last started
@@ -181,11 +181,12 @@ module _ (s : State) (h : List Event) (v : Agrees s h) (f : WellFormed s) where
         dated-lists s h v (clockSetTo d n) (λ j. refl) d refl refl set-cut
         ∙ ap (λ (l : List Placed). map entry (l ++ firingIn ByDate h (clockSetTo d n))) (sym (no-ticks (λ o. not (forServer o))))
 
-    pub set-clock-moves : movedBy (s .clock) (clockAt (s .clock) d n) ≡ newMinusOld (clockAfter 0 h) (clockAfter 0 (clockSetTo d n ∷ h))
-    set-clock-moves = is (s .clock .isSet) refl ∙ ap₂ newMinusOld (sym (v .clock)) (sym set-clock)
+    -- new minus old, 0 where the clock was unset
+    pub set-clock-moves : movedBy (s .clock) (clockAt (s .clock) d n) ≡ apart (clockAfter 0 h) (clockAfter 0 (clockSetTo d n ∷ h))
+    set-clock-moves = is (s .clock .isSet) refl ∙ ap₂ apart (sym (v .clock)) (sym set-clock)
       where
         is : (b : Bool) → s .clock .isSet ≡ b
-            → movedBy (s .clock) (clockAt (s .clock) d n) ≡ newMinusOld (standing (s .clock)) (standing (clockAt (s .clock) d n))
+            → movedBy (s .clock) (clockAt (s .clock) d n) ≡ apart (standing (s .clock)) (standing (clockAt (s .clock) d n))
         is true e = rw e
         is false e = rw e
 

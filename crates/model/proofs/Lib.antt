@@ -28,6 +28,7 @@ pub mod Simulation
 pub mod ClockSimulation
 pub mod Agreement
 pub mod OutcomeLaws
+pub mod ClockReadings
 pub mod CallTables
 pub mod Lasting
 pub mod ListWords

@@ -32,8 +32,8 @@ isShort s list = ltb (length list) (3 * length (s .slots))
 abbrev pub notAhead : State → WallTime → Bool
 notAhead s w = not (valid w && ltb (s .clock .second) (secondsOf w))
 
-abbrev pub noClock : State → WallTime → Bool
-noClock s w = not (valid w && ltb (w .ticks) (s .clock .perSecond))
+abbrev pub notSettable : State → WallTime → Bool
+notSettable s w = not (valid w && ltb (w .ticks) (s .clock .perSecond))
 
 -- N is 1 to 255 and T 1 to 1,000
 abbrev pub limits : ℕ → ℕ → List Bool
@@ -207,10 +207,11 @@ abbrev pub clockMoved : State → ℕ → ℕ → Effect
 clockMoved s second ticksInto =
     let now = withClock s (clockAt (s .clock) second ticksInto) in firing (fire ByDate second now) (withoutServer (s .slots) (due ByDate second now))
 
--- How far the clock moved, as new minus old in ticks, below zero when set back; 0 on the first set since the lay out.
+-- a clock counted in ticks
 abbrev pub inTicks : Clock → ℕ
 inTicks c = c .second * c .perSecond + c .ticksInto
 
+-- How far the clock moved, as new minus old in ticks, below zero when set back; 0 on the first set since the lay out.
 abbrev pub movedBy : Clock → Clock → ℤ
 movedBy old new = cond (old .isSet) (pos (inTicks new) -ℤ pos (inTicks old)) (pos 0)
 
@@ -284,7 +285,7 @@ directive (tick list) = record {
   does = λ s. ticked s;
 }
 directive (setClock d list) = record {
-  rules = λ w s. unsound w ∷ when ListTooShort (isShort s list) ∷ when InvalidClock (noClock s d) ∷ [];
+  rules = λ w s. unsound w ∷ when ListTooShort (isShort s list) ∷ when InvalidClock (notSettable s d) ∷ [];
   does = λ s. clockMoved s (secondsOf d) (d .ticks);
 }
 directive getClock = record {

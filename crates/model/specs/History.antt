@@ -6,7 +6,6 @@ use mathlib.Core.Bool.{Bool, true, false, cond, not, _&&_, _||_}
 use mathlib.Core.Option.{Option, none, some}
 use mathlib.Core.List.{List, [], _∷_, _++_, map}
 use lib.ListN.{drop}
-use lib.IntN.{ℤ, pos, _-ℤ_}
 use lib.Dec.{leb, eqb}
 use Rattle.calendar.specs.Calendar.{secondsOf, lastSecond}
 use Rattle.model.specs.Lists.{keep, any, count, InOrder}
@@ -150,12 +149,6 @@ clockAfter since (clockSetTo d n ∷ before) = some (min (d * perSecond before +
 clockAfter since (initiates ∷ before) = clockAfter since before
 clockAfter since (servesFront ∷ before) = clockAfter since before
 clockAfter since (nothing ∷ before) = clockAfter since before
-
--- how far it moved: new minus old, 0 where it was unset
-abbrev pub newMinusOld : Option ℕ → Option ℕ → ℤ
-newMinusOld none new = pos 0
-newMinusOld (some old) none = pos 0
-newMinusOld (some old) (some new) = pos new -ℤ pos old
 
 -- It is at or past a date when it is at least the date's seconds times T.
 abbrev pub atLeast : ℕ → Option ℕ → Bool
