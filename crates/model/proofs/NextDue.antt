@@ -2,22 +2,21 @@
 -- the first of the interval chain, along which ticks left never fall, so what is read there is the least ticks left over all waiting interval timers, of
 -- the table's slots and of the history's starts. Assumes nothing.
 use mathlib.Core.Path.{_≡_, refl, sym, ap, ap₂, _∙_, subst}
-use Prim.Native.Nat.{ℕ, zero, suc, _+_, _-_, _*_, _≤_, _<_, min}
+use Prim.Native.Nat.{ℕ, zero, suc, _+_, _-_, _≤_, _<_}
 use native.Mathlib.Omega.{arith}
 use mathlib.Core.Bool.{Bool, true, false, cond, not, _||_}
 use mathlib.Core.List.{List, [], _∷_, _++_, map, head-eq-of-cons-eq}
 use lib.ListN.{length, replicate}
 use lib.Dec.{leb, ltb, eqb}
-use borrow.Author.Tests.{leb-true, leb-false, lt-leb, lt-ltb, eq-eqb, ne-eqb, eqb-true, eqb-false}
+use borrow.Author.Tests.{leb-true, leb-false, lt-leb, lt-ltb, eq-eqb, eqb-true, eqb-false}
 use Rattle.calendar.specs.Calendar.{allOf}
 use Rattle.model.specs.Lists.{least, keep, any, every, place, All, Sorted}
-use Rattle.model.specs.Status.{firstOf}
 use Rattle.model.specs.Calls.{ticksLeft, tick, nextDue}
 use Rattle.model.specs.Kinds.{ByTicks, ByDate, waitsIn}
 use Rattle.model.specs.State.{Slot, Link, State, withChain, withClock, slotAt, waitAt, idBase, indexOf}
-use Rattle.model.specs.Words.{first, writtenOver, linksFrom, links, read, slotCount, firstTicking, kindOf, waitOf, nextOf, slotFrom}
+use Rattle.model.specs.Words.{first, writtenOver, linksFrom, links, read, slotCount, firstTicking, kindOf, waitOf, nextOf}
 use Rattle.model.specs.Sound.{headerSound, slotSound, chainSound, ticksSound, datesSound, queueSound, sound}
-use Rattle.model.specs.Directives.{firstTests, firstWait, refusals, firedAll, goOn, due, fire, closer, nearer, clockStep}
+use Rattle.model.specs.Directives.{firstTests, firstWait, firedAll, goOn, due, fire, closer, nearer, clockStep}
 use Rattle.model.specs.Outcome.{Outcome, outcomeOf, statusOn, outcome}
 use Rattle.model.specs.Demand.{firstNumber}
 use Rattle.model.specs.NextDue.{slotsUp, waitingForTicks, ticksLeftOf, NextDueIsLeast, SameFirst, NextDueReadsOneSlot}
@@ -30,7 +29,7 @@ use Rattle.model.proofs.SoundHolds.{sound-header, sound-holds, sound-we
 use Rattle.model.proofs.KindLaws.{dated-not-again}
 use Rattle.model.proofs.Steps.{fire-elsewhere, chained-fire, chained-nearer, chained-with-clock}
 use Rattle.model.proofs.CallTables.{table-left, effect-holds, effect-sound}
-use Rattle.model.proofs.AcceptedCalls.{Named, facts-accepted, accepted-facts}
+use Rattle.model.proofs.AcceptedCalls.{Named, facts-accepted}
 use Rattle.model.proofs.OutcomeLaws.{status-is, outcome-accepted, outcome-refused, outcome-status}
 
 -- 100, and status 0 with that answer

@@ -1,6 +1,5 @@
 -- `next_due::has_room` meets its contract, a test at a time. Assumes nothing.
 use borrow.Author.Needs.{needs}
-use native.Mathlib.Omega.{arith}
 use borrow.Author.Tests.{lt-leb}
 use Rattle.next_due.proofs.FirstTests.{no-room, room-decides}
 use Rattle.next_due.proofs.has_room.Statement.{statement}
