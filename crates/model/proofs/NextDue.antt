@@ -2,7 +2,7 @@
 -- the first of the interval chain, along which ticks left never fall, so what is read there is the least ticks left over all waiting interval timers, of
 -- the table's slots and of the history's starts. Assumes nothing.
 use mathlib.Core.Path.{_≡_, refl, sym, ap, ap₂, _∙_, subst}
-use Prim.Native.Nat.{ℕ, zero, suc, _+_, _-_, _≤_, _<_}
+use Prim.Native.Nat.{ℕ, zero, suc, _+_, _-_, _*_, _≤_, _<_}
 use native.Mathlib.Omega.{arith}
 use mathlib.Core.Bool.{Bool, true, false, cond, not, _||_}
 use mathlib.Core.List.{List, [], _∷_, _++_, map, head-eq-of-cons-eq}
@@ -20,7 +20,7 @@ use Rattle.model.specs.Directives.{firstTests, firstWait, firedAll, goOn
 use Rattle.model.specs.Outcome.{Outcome, outcomeOf, statusOn, outcome}
 use Rattle.model.specs.Demand.{firstNumber}
 use Rattle.model.specs.NextDue.{slotsUp, waitingForTicks, ticksLeftOf, NextDueIsLeast, SameFirst, NextDueReadsOneSlot}
-use Rattle.model.proofs.ListLaws.{cases, clash, or-else, or-left, or-right, all-true, all-map, all-keep, all-passed, all-zip, all-mapped, keep-all, keep-none}
+use Rattle.model.proofs.ListLaws.{cases, clash, or-else, or-left, or-right, all-at, all-true, all-map, all-keep, all-passed, all-zip, all-mapped, keep-all, keep-none}
 use Rattle.model.proofs.Order.{orderOn, order}
 use Rattle.model.proofs.WellFormed.{timesIn}
 use Rattle.model.proofs.Chains.{times-own, in-slots}
@@ -29,7 +29,7 @@ use Rattle.model.proofs.SoundHolds.{sound-header, sound-holds, sound-we
 use Rattle.model.proofs.KindLaws.{dated-not-again}
 use Rattle.model.proofs.Steps.{fire-elsewhere, chained-fire, chained-nearer, chained-with-clock}
 use Rattle.model.proofs.CallTables.{table-left, effect-holds, effect-sound}
-use Rattle.model.proofs.AcceptedCalls.{Named, facts-accepted}
+use Rattle.model.proofs.AcceptedCalls.{Named, accepted-facts, facts-accepted}
 use Rattle.model.proofs.OutcomeLaws.{status-is, outcome-accepted, outcome-refused, outcome-status}
 
 -- 100, and status 0 with that answer
@@ -326,16 +326,47 @@ next-due-is-least t ok =
 
 -- ---- on any table
 
+-- its tests from the slice's length, N, word 5 and the kind and wait of that slot
+abbrev testsOf : ℕ → ℕ → ℕ → ℕ → ℕ → Bool
+testsOf long n i kind wait = allOf (
+    leb 10 long ∷ leb (10 + 8 * n) long ∷ leb 1 n ∷ leb n 255 ∷ leb i n ∷ (eqb i 0 || waitsIn ByTicks kind) ∷ (eqb i 0 || ltb 0 wait) ∷ [])
+
+-- where word 5 names no slot neither kind nor wait is looked at
+same-of : (long n i k v w x : ℕ) → (1 ≤ i → i ≤ n → (k ≡ v) × (w ≡ x)) → testsOf long n i k w ≡ testsOf long n i v x
+same-of long n i k v w x same =
+    cases (eqb i 0)
+    (λ e. rw e)
+    (λ e.
+    let some = eqb-false i 0 e in
+    cases (leb i n)
+    (λ f. let p = same (omega arith) (leb-true i n f) in ap₂ (testsOf long n i) (p .0) (p .1))
+    (λ f. rw f))
+
 module _ (t u : List ℕ) (same : SameFirst t u) where
   same-tests : allOf (firstTests t) ≡ allOf (firstTests u)
-  same-tests = rw (same .kind, same .wait, same .long, same .count, same .head)
+  same-tests =
+      let k = kindOf t (firstTicking t) in
+      let w = waitOf t (firstTicking t) in
+      (λ j. testsOf (same .long j) (same .count j) (same .head j) k w)
+      ∙ same-of (length u) (slotCount u) (firstTicking u) k (kindOf u (firstTicking u)) w (waitOf u (firstTicking u)) (λ low high.
+      let l : 1 ≤ firstTicking t = omega (arith, low, same .head) in
+      let h : firstTicking t ≤ slotCount t = omega (arith, high, same .head, same .count) in
+      (same .kind l h, same .wait l h))
 
   same-status : statusOn t nextDue ≡ statusOn u nextDue
   same-status =
       status-is t nextDue ∙ ap {B = ℕ} (λ (b : Bool). cond (not b) 100 0) same-tests ∙ sym (status-is u nextDue)
 
-  same-wait : firstWait t ≡ firstWait u
-  same-wait = ap₂ (λ (i n : ℕ). cond (eqb i 0) 0 n) (same .head) (same .wait)
+  same-wait : allOf (firstTests t) ≡ true → firstWait t ≡ firstWait u
+  same-wait pass =
+      let i = firstTicking t in
+      let high = leb-true i (slotCount t) (all-at (firstTests t) pass 4) in
+      cases (eqb i 0)
+      (λ e. let z : eqb (firstTicking u) 0 ≡ true = ap (λ (n : ℕ). eqb n 0) (sym (same .head)) ∙ e in rw (e, z))
+      (λ e.
+      let z : eqb (firstTicking u) 0 ≡ false = ap (λ (n : ℕ). eqb n 0) (sym (same .head)) ∙ e in
+      let some = eqb-false i 0 e in
+      rw (e, z) (same .wait (omega arith) high))
 
 pub next-due-reads-one-slot : NextDueReadsOneSlot
 next-due-reads-one-slot t u same =
@@ -344,9 +375,10 @@ next-due-reads-one-slot t u same =
     (λ e.
     let z = eqb-true (statusOn t nextDue) 0 e in
     let o = outcome-accepted t nextDue z in
-    let p = outcome-accepted u nextDue (sym (same-status t u same) ∙ z) in (
+    let p = outcome-accepted u nextDue (sym (same-status t u same) ∙ z) in
+    let wait = same-wait t u same (accepted-facts t (read t) nextDue (sym (status-is t nextDue) ∙ z)) in (
       status,
-      ap (λ (o : Outcome). o .answer) o ∙ ap {B = List ℕ} (λ (n : ℕ). n ∷ []) (same-wait t u same) ∙ sym (ap (λ (o : Outcome). o .answer) p),
+      ap (λ (o : Outcome). o .answer) o ∙ ap {B = List ℕ} (λ (n : ℕ). n ∷ []) wait ∙ sym (ap (λ (o : Outcome). o .answer) p),
       ap (λ (o : Outcome). o .table) o,
       ap (λ (o : Outcome). o .list) o,
     ))
