@@ -131,31 +131,31 @@ static void protect(size_t from_page, size_t pages, int how)
         fail("the test itself: expected pages to be closed and opened, came an error");
 }
 
-static bool open[PAGES];
+static bool is_open[PAGES];
 
 /* Marks the pages of so many words from this one on. */
 static void open_pages_of(size_t word, size_t count)
 {
     for (size_t page = word / page_words; count > 0 && page <= (word + count - 1) / page_words; page++)
-        open[page] = true;
+        is_open[page] = true;
 }
 
 static bool touches_open(size_t start, uint32_t index)
 {
     size_t word = start + slot_at(index, SLOT_KIND);
-    return open[word / page_words] || open[(word + SLOT_WORDS - 1) / page_words];
+    return is_open[word / page_words] || is_open[(word + SLOT_WORDS - 1) / page_words];
 }
 
 /* Closes all pages but those of the header and of that slot. */
 static void close_others(size_t start, uint32_t first)
 {
-    memset(open, 0, sizeof open);
+    memset(is_open, 0, sizeof is_open);
     open_pages_of(start, words < HEADER_WORDS ? words : HEADER_WORDS);
     if (first != 0)
         open_pages_of(start + slot_at(first, SLOT_KIND), SLOT_WORDS);
     protect(0, PAGES, PROT_NONE);
     for (size_t page = 0; page < PAGES; page++)
-        if (open[page])
+        if (is_open[page])
             protect(page, 1, PROT_READ);
 }
 
