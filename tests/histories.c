@@ -543,8 +543,8 @@ static void random_history_call(struct call *c, size_t words)
 {
     static const uint32_t weights[CALLS] = {
         [CREATE] = 4, [IDENT] = 1, [CANCEL] = 2, [DELETE] = 1, [FIRE_AFTER] = 5, [FIRE_WHEN] = 3, [FIRE_EVERY] = 2,
-        [RESET] = 2, [TICKS_LEFT] = 1, [TICK] = 10, [GET_CLOCK] = 1, [NEXT_DUE] = 2, [SERVER_FIRE_AFTER] = 6, [SERVER_FIRE_WHEN] = 4,
-        [SERVE] = 4};
+        [RESET] = 2, [TICKS_LEFT] = 1, [TICK] = 10, [GET_CLOCK] = 1, [NEXT_DUE] = 2, [SERVER_FIRE_AFTER] = 6,
+        [SERVER_FIRE_WHEN] = 4, [SERVE] = 4};
     memset(c, 0, sizeof *c);
     c->kind = weighted_call(weights);
     if (c->kind == SERVE && queue_length() == 0 && !one_in(4))

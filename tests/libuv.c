@@ -105,7 +105,7 @@ static void expect_left(uint32_t index)
         fail("expected %" PRIu64 " ticks left as libuv says, came %" PRIu32, left, came.answer);
 }
 
-/* libuv's loop would sleep so long; 0 where no timer is active, and then it would end. It says no more than the greatest int. */
+/* libuv's loop would sleep so long, by an int; 0 where no timer is active, and then it would end. */
 static void expect_next_due(void)
 {
     struct came came;
