@@ -976,6 +976,26 @@ static void moved_from_end_to_end(void)
     }
 }
 
+/* By as many ticks as 31 and 32 bits have, and one fewer and more, there and back. */
+static void moved_around_32_bits(void)
+{
+    static const struct { uint32_t day, hour, second; int64_t ticks; } moves[] = {
+        {24, 20 * 3600 + 31 * 60, 23, INT64_C(2147483648)}, {49, 17 * 3600 + 2 * 60, 47, INT64_C(4294967296)}};
+    is("lay out", 0, lay_out(SLOTS, 1000));
+    struct hc_wall_time first = at(1988, 1, 1, 0, 0, 0);
+    is("set clock", 0, set_clock(first));
+    for (size_t i = 0; i < sizeof moves / sizeof *moves; i++)
+        for (int beside = -1; beside <= 1; beside++) {
+            uint32_t time = moves[i].hour;
+            struct hc_wall_time then = at(1988, moves[i].day < 31 ? 1 : 2, moves[i].day % 31 + 1, time / 3600, time / 60 % 60,
+                                          moves[i].second);
+            is("set clock", 0, set_clock(with_ticks(then, (uint32_t)(moves[i].ticks % 1000) + (uint32_t)beside)));
+            moved_is("so far on", moves[i].ticks + beside);
+            is("set clock", 0, set_clock(first));
+            moved_is("so far back", -moves[i].ticks - beside);
+        }
+}
+
 /* Timers of the server at or before the new second are queued, whatever the ticks. */
 static void queued_with_ticks(void)
 {
@@ -992,6 +1012,21 @@ static void queued_with_ticks(void)
     nothing_fires(1);
     queue_is(one, two, 0);
     clock_is(2, 0);
+}
+
+/* A timer that is idle by all its words but the kind, which is none. */
+static void no_such_kind(void)
+{
+    fresh();
+    initiate_server();
+    server_fire_after(one, 5, 7, 70);
+    cancel(one);
+    is("idle", KIND_IDLE_SERVER_TICKING, kind(1));
+    is("sound", 0, ticks_left(one));
+    for (uint32_t past = KINDS; past < KINDS + 4; past++) {
+        table[slot_at(1, SLOT_KIND)] = past;
+        is("a kind past the last", HC_NOT_SOUND, ticks_left(one));
+    }
 }
 
 static void single_slot(void)
@@ -1184,7 +1219,9 @@ int main(void)
     how_far_it_moved();
     moved_from_the_first_second();
     moved_from_end_to_end();
+    moved_around_32_bits();
     queued_with_ticks();
+    no_such_kind();
     next_of_timers();
     next_refusals();
     next_slices();
