@@ -1,43 +1,76 @@
--- `calendar::month_day` meets its contract: the day lies as many days after the start of the month as are left. The loop falls by 12 less the
--- month, so that it turns at most twelve times. Assumes nothing.
-use mathlib.Core.Path.{_≡_}
-use Prim.Native.Nat.{_+_, _<_, _-_}
+-- `calendar::month_day` meets its contract: the month begins on the line by where the day stands there, and the next one after it. The falling
+-- number is one more than the months from the first one tried, so that the loop goes round at most once. Assumes nothing.
+use mathlib.Core.Path.{_≡_, refl, sym}
+use Prim.Native.Nat.{ℕ, _+_, _-_, _*_, _/_, _≤_, _<_}
+use borrow.Author.Needs.{needs}
 use native.Mathlib.Omega.{arith}
-use Rattle.calendar.specs.Calendar.{monthsOf, before}
-use Rattle.calendar.proofs.Spans.{before-next, before-is}
-use Rattle.calendar.proofs.Years.{twelve}
+use Rattle.calendar.proofs.Months.{start, Shifted, shifted-short, OfMonth, of-month}
+use Rattle.calendar.proofs.Years.{leap-is}
 use Rattle.calendar.proofs.month_day.Statement.{statement}
 use Rattle.calendar.proofs.month_day.Tie as tie
 
-abbrev Inv-loop : tie.InvT-loop
-Inv-loop year day month₀ left₀ month left = (month < 12) × (day ≡ before (monthsOf year) month + left)
+-- where the day stands on the line, and a month that begins there or before
+pub record Reached (year day shifted month : ℕ) : Type 0 where
+  pub at : Shifted year day shifted
+  pub in-year : month < 12
+  pub begun : start month ≤ shifted
 
-abbrev μ-loop : tie.MeasureT-loop
-μ-loop year day month₀ left₀ month left = 12 - month
+abbrev pub Inv-loop : tie.InvT-loop
+Inv-loop year day lacking shifted month₀ month = Reached year day shifted month
+
+abbrev pub μ-loop : tie.MeasureT-loop
+μ-loop year day lacking shifted month₀ month = shifted / 32 + 1 - month
+
+lacking-days-requires : tie.Need-lacking-days-requires Inv-loop μ-loop
+lacking-days-requires c κs = search needs
+
+-- the day where the loop begins
+on-line : (c : tie.After-lacking-days Inv-loop μ-loop) → Shifted (c .before .args .year) (c .before .args .day) (c .before .args .day + c .lacking-days .result)
+on-line c =
+    let lacking = c .lacking-days .ensures in
+    record {
+      in-year = c .before .pre;
+      early = λ h. omega (arith, lacking .0 h);
+      late = λ h. omega (arith, lacking .1 h, leap-is (c .before .args .year));
+    }
+
+add-shifted : tie.Need-add-shifted Inv-loop μ-loop
+add-shifted c = omega (arith, shifted-short _ _ _ (on-line c))
 
 loop-holds : tie.Need-loop-holds Inv-loop μ-loop
-loop-holds c = omega arith
+loop-holds c =
+    let short = shifted-short _ _ _ (on-line c) in
+    record { at = on-line c; in-year = omega arith; begun = omega arith }
 
-month-length-requires : tie.Need-month-length-requires Inv-loop μ-loop
-month-length-requires c κs = omega arith
+add-month-start : tie.Need-add-month-start Inv-loop μ-loop
+add-month-start c = omega arith
 
-returns : tie.Need-returns Inv-loop μ-loop
-returns c = omega arith
+month-start-requires : tie.Need-month-start-requires Inv-loop μ-loop
+month-start-requires c κs = omega arith
 
 add-month : tie.Need-add-month Inv-loop μ-loop
 add-month c = omega arith
 
-loop-less : tie.Need-loop-less Inv-loop μ-loop
+pub loop-less : tie.Need-loop-less Inv-loop μ-loop
 loop-less c = omega arith
 
 loop-again : tie.Need-loop-again Inv-loop μ-loop
 loop-again c =
-    let a = c .before .before .before .args in
-    let m = c .before .before .loop .month in
-    let months = monthsOf (a .year) in
-    let next = before-next months m in
-    let more = before-is months (m + 1) (a .day) (omega arith) (omega arith) in
-    omega (arith, twelve (a .year))
+    let at = c .before .before .loop .inv .at in
+    let short = shifted-short _ _ _ at in
+    record { at = at; in-year = omega arith; begun = omega arith }
+
+month-start-requires-2 : tie.Need-month-start-requires-2 Inv-loop μ-loop
+month-start-requires-2 c κs = omega arith
+
+sub-t10 : tie.Need-sub-t10 Inv-loop μ-loop
+sub-t10 c = omega arith
+
+returns : tie.Need-returns Inv-loop μ-loop
+returns c =
+    let loop = c .before .before .before .loop in
+    let found = of-month _ _ _ (loop .month) (loop .inv .at) (omega arith) (omega arith) (omega arith) in
+    omega (arith, found)
 
 pub month-day-spec : {M : Type 1} → statement M
 month-day-spec =
@@ -45,9 +78,14 @@ month-day-spec =
     (tie.spec
     Inv-loop
     μ-loop
+    lacking-days-requires
+    add-shifted
     loop-holds
-    month-length-requires
-    returns
+    add-month-start
+    month-start-requires
     add-month
     loop-less
-    loop-again)
+    loop-again
+    month-start-requires-2
+    sub-t10
+    returns)
