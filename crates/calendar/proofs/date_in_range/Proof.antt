@@ -6,6 +6,8 @@ use mathlib.Core.Path.{_≡_, refl, ap, sym, _∙_}
 use Prim.Native.Nat.{ℕ, _+_, _*_, _/_, _%_}
 use Rattle.calendar.proofs.Years.{InFour, in-four}
 use Rattle.calendar.proofs.Found.{date-is, same-wall}
+use Rattle.calendar.proofs.Turns.{Turns, tooOften}
+use Rattle.calendar.proofs.date_in_range.Code as code
 use Rattle.calendar.proofs.date_in_range.Statement.{statement}
 use Rattle.calendar.proofs.date_in_range.Tie as tie
 
@@ -43,6 +45,10 @@ returns c =
     let month = c .before .before .month-day in
     same-wall refl refl refl (ap (λ (t : ℕ). t / 3600) time) (ap (λ (t : ℕ). t % 3600 / 60) time) (ap (λ (t : ℕ). t % 60) time)
     ∙ sym (date-is s (s / 126230400 * 4 + found .year-day .result .year) (month .result .month) (month .result .day) (four .year) (month .ensures .1) (omega arith))
+
+-- it has no loop of its own
+turns : Turns tooOften "calendar::date_in_range" code.function
+turns = omega arith
 
 pub date-in-range-spec : {M : Type 1} → statement M
 date-in-range-spec =

@@ -2,6 +2,8 @@
 use borrow.Author.Needs.{needs}
 use native.Mathlib.Omega.{arith}
 use Rattle.calendar.proofs.Years.{leap-is}
+use Rattle.calendar.proofs.Turns.{Turns, tooOften}
+use Rattle.calendar.proofs.lacking_days.Code as code
 use Rattle.calendar.proofs.lacking_days.Statement.{statement}
 use Rattle.calendar.proofs.lacking_days.Tie as tie
 
@@ -22,6 +24,10 @@ returns c = search needs
 
 returns-2 : tie.Need-returns-2
 returns-2 c = search needs
+
+-- it has no loop of its own
+turns : Turns tooOften "calendar::lacking_days" code.function
+turns = omega arith
 
 pub lacking-days-spec : {M : Type 1} → statement M
 lacking-days-spec =

@@ -6,6 +6,8 @@ use borrow.Author.Needs.{needs}
 use native.Mathlib.Omega.{arith}
 use Rattle.calendar.proofs.Months.{start, Shifted, shifted-short, OfMonth, of-month}
 use Rattle.calendar.proofs.Years.{leap-is}
+use Rattle.calendar.proofs.Turns.{Turns}
+use Rattle.calendar.proofs.month_day.Code as code
 use Rattle.calendar.proofs.month_day.Statement.{statement}
 use Rattle.calendar.proofs.month_day.Tie as tie
 
@@ -71,6 +73,13 @@ returns c =
     let loop = c .before .before .before .loop in
     let found = of-month _ _ _ (loop .month) (loop .inv .at) (omega arith) (omega arith) (omega arith) in
     omega (arith, found)
+
+-- the falling number begins at 1 at most, and `loop-less` says that each turn leaves it less
+begins : tie.Need-loop-holds (λ year day lacking shifted month₀ month. μ-loop year day lacking shifted month₀ month ≤ 1) μ-loop
+begins c = omega arith
+
+turns : Turns 1 "calendar::month_day" code.function
+turns = omega arith
 
 pub month-day-spec : {M : Type 1} → statement M
 month-day-spec =
