@@ -63,7 +63,7 @@ const BEFORE_MARCH: u32 = 59;
 
 const FEBRUARY_LACKS: u32 = 2;
 
-// Where months begin, in sixteenths of a day, if February had 30 days: half a day for the first, and so many from each to the next.
+// Where months begin if February had 30 days, in sixteenths of a day: half a day for January, and as much more for each month as the last of these.
 const SIXTEENTHS: u32 = 16;
 
 const FIRST_SIXTEENTHS: u32 = 8;

@@ -162,6 +162,7 @@ pub extern "C" fn hc_set_clock(
     status_of(answer)
 }
 
+// The zeros of a refusal are written first: to choose between them and the date at the end takes longer.
 #[no_mangle]
 pub extern "C" fn hc_get_clock(table: &[u32], time: &mut [u32; 7]) -> u32
     ensures { λ r. ⌜ outcomeOf r (now (time .exit)) (now (table .entry)) [] ≡ outcome (now (table .entry)) call.getClock ⌝ }
