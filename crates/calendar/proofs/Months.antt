@@ -2,7 +2,7 @@
 -- month in which a day lies is found on that line. Assumes nothing.
 use mathlib.Core.Bool.{Bool, true, false, cond, _&&_}
 use mathlib.Core.List.{List}
-use mathlib.Core.Path.{_≡_, refl, ap, sym, _∙_}
+use mathlib.Core.Path.{_≡_, refl, ap, _∙_}
 use Prim.Native.Nat.{ℕ, zero, suc, _+_, _-_, _*_, _/_, _≤_, _<_}
 use native.Mathlib.Omega.{arith}
 use lib.Dec.{ltb, eqb}
@@ -80,18 +80,18 @@ of-month year day shifted m s h from to = go (ltb day (59 + leapFlag year)) refl
     next : before (monthsOf year) (m + 1) ≡ before (monthsOf year) m + getD (monthsOf year) m 0
     next = before-next (monthsOf year) m
 
-    january : shifted ≡ day → (b : Bool) → ltb m 1 ≡ b → day < 59 + leapFlag year → OfMonth year day m (shifted - start m)
-    january e true v u =
+    to-february : shifted ≡ day → (b : Bool) → ltb m 1 ≡ b → day < 59 + leapFlag year → OfMonth year day m (shifted - start m)
+    to-february e true v u =
         let first = ltb-true m 1 v in
         omega (arith, next, starts-early year m (omega arith), starts-early year (m + 1) (omega arith))
-    january e false v u =
+    to-february e false v u =
         let l = leap-is year in
         let second = ltb-false m 1 v in
         let two : m ≡ 1 = omega arith in
         omega (arith, next, starts-early year m (omega arith), starts-late year (m + 1) (omega arith) (omega arith))
 
     go : (b : Bool) → ltb day (59 + leapFlag year) ≡ b → OfMonth year day m (shifted - start m)
-    go true e = let u = ltb-true day (59 + leapFlag year) e in january (s .early u) (ltb m 1) refl u
+    go true e = let u = ltb-true day (59 + leapFlag year) e in to-february (s .early u) (ltb m 1) refl u
     go false e =
         let u = ltb-false day (59 + leapFlag year) e in
         let v = s .late u in

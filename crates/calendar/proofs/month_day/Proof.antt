@@ -1,10 +1,9 @@
 -- `calendar::month_day` meets its contract: the month begins on the line by where the day stands there, and the next one after it. The falling
--- number is one more than the months from the first one tried, so that the loop goes round at most once. Assumes nothing.
-use mathlib.Core.Path.{_≡_, refl, sym}
-use Prim.Native.Nat.{ℕ, _+_, _-_, _*_, _/_, _≤_, _<_}
+-- number is how many months are left up to the one after the first that is tried, so that it begins at 1. Assumes nothing.
+use Prim.Native.Nat.{ℕ, _+_, _-_, _/_, _≤_, _<_}
 use borrow.Author.Needs.{needs}
 use native.Mathlib.Omega.{arith}
-use Rattle.calendar.proofs.Months.{start, Shifted, shifted-short, OfMonth, of-month}
+use Rattle.calendar.proofs.Months.{start, Shifted, shifted-short, of-month}
 use Rattle.calendar.proofs.Years.{leap-is}
 use Rattle.calendar.proofs.Turns.{Turns}
 use Rattle.calendar.proofs.month_day.Code as code
@@ -12,15 +11,15 @@ use Rattle.calendar.proofs.month_day.Statement.{statement}
 use Rattle.calendar.proofs.month_day.Tie as tie
 
 -- where the day stands on the line, and a month that begins there or before
-pub record Reached (year day shifted month : ℕ) : Type 0 where
-  pub at : Shifted year day shifted
-  pub in-year : month < 12
-  pub begun : start month ≤ shifted
+record Reached (year day shifted month : ℕ) : Type 0 where
+  at : Shifted year day shifted
+  in-year : month < 12
+  begun : start month ≤ shifted
 
-abbrev pub Inv-loop : tie.InvT-loop
+abbrev Inv-loop : tie.InvT-loop
 Inv-loop year day lacking shifted month₀ month = Reached year day shifted month
 
-abbrev pub μ-loop : tie.MeasureT-loop
+abbrev μ-loop : tie.MeasureT-loop
 μ-loop year day lacking shifted month₀ month = shifted / 32 + 1 - month
 
 lacking-days-requires : tie.Need-lacking-days-requires Inv-loop μ-loop
@@ -53,7 +52,7 @@ month-start-requires c κs = omega arith
 add-month : tie.Need-add-month Inv-loop μ-loop
 add-month c = omega arith
 
-pub loop-less : tie.Need-loop-less Inv-loop μ-loop
+loop-less : tie.Need-loop-less Inv-loop μ-loop
 loop-less c = omega arith
 
 loop-again : tie.Need-loop-again Inv-loop μ-loop
