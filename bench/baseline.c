@@ -426,6 +426,13 @@ static bool advance_clock(uint32_t *table)
     return true;
 }
 
+/* The ticks from the clock to that one, below 0 if it is earlier. */
+static inline int64_t moved_by(const uint32_t *table, uint32_t seconds, uint32_t ticks)
+{
+    int64_t further = (int64_t)seconds - table[SECONDS];
+    return further * table[TICKS_PER_SECOND] + ticks - table[CLOCK_TICKS];
+}
+
 uint32_t CALL(lay_out)(uint32_t *table, size_t words, uint32_t slots, uint32_t ticks_per_second)
 {
     if (slots < 1 || slots > MAX_SLOTS)
@@ -623,9 +630,10 @@ uint32_t CALL(tick)(uint32_t *table, size_t words, uint32_t *fired, size_t fired
 }
 
 uint32_t CALL(set_clock)(uint32_t *table, size_t words, const struct hc_wall_time *now, uint32_t *fired,
-                         size_t fired_words, uint32_t *count)
+                         size_t fired_words, uint32_t *count, int64_t *moved)
 {
     *count = 0;
+    *moved = 0;
     uint32_t last_queued = check(table, words);
     if (last_queued == NOT_SOUND)
         return HC_NOT_SOUND;
@@ -633,9 +641,14 @@ uint32_t CALL(set_clock)(uint32_t *table, size_t words, const struct hc_wall_tim
         return HC_LIST_TOO_SHORT;
     if (!valid(now))
         return HC_INVALID_CLOCK;
+    if (now->ticks >= table[TICKS_PER_SECOND])
+        return HC_INVALID_CLOCK;
+    uint32_t seconds = seconds_of(now);
+    if (table[CLOCK_SET])
+        *moved = moved_by(table, seconds, now->ticks);
     table[CLOCK_SET] = 1;
-    table[SECONDS] = seconds_of(now);
-    table[CLOCK_TICKS] = 0;
+    table[SECONDS] = seconds;
+    table[CLOCK_TICKS] = now->ticks;
     *count = fire(table, FIRST_DATED, table[SECONDS], true, &last_queued, fired);
     return HC_SUCCESSFUL;
 }

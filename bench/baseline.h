@@ -36,7 +36,7 @@ uint32_t CALL(reset)(uint32_t *table, size_t words, uint32_t id);
 uint32_t CALL(ticks_left)(const uint32_t *table, size_t words, uint32_t id, uint32_t *ticks);
 uint32_t CALL(tick)(uint32_t *table, size_t words, uint32_t *fired, size_t fired_words, uint32_t *count);
 uint32_t CALL(set_clock)(uint32_t *table, size_t words, const struct hc_wall_time *now, uint32_t *fired,
-                         size_t fired_words, uint32_t *count);
+                         size_t fired_words, uint32_t *count, int64_t *moved);
 uint32_t CALL(get_clock)(const uint32_t *table, size_t words, struct hc_wall_time *now);
 uint32_t CALL(initiate_server)(uint32_t *table, size_t words);
 uint32_t CALL(server_fire_after)(uint32_t *table, size_t words, uint32_t id, uint32_t ticks, uint32_t routine, uint32_t data);

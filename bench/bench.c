@@ -26,7 +26,7 @@ struct side {
     uint32_t (*reset)(uint32_t *, size_t, uint32_t);
     uint32_t (*ticks_left)(const uint32_t *, size_t, uint32_t, uint32_t *);
     uint32_t (*tick)(uint32_t *, size_t, uint32_t *, size_t, uint32_t *);
-    uint32_t (*set_clock)(uint32_t *, size_t, const struct hc_wall_time *, uint32_t *, size_t, uint32_t *);
+    uint32_t (*set_clock)(uint32_t *, size_t, const struct hc_wall_time *, uint32_t *, size_t, uint32_t *, int64_t *);
     uint32_t (*get_clock)(const uint32_t *, size_t, struct hc_wall_time *);
     uint32_t (*initiate_server)(uint32_t *, size_t);
     uint32_t (*server_fire_after)(uint32_t *, size_t, uint32_t, uint32_t, uint32_t, uint32_t);
@@ -62,9 +62,10 @@ static uint32_t no_tick(uint32_t *t, size_t n, uint32_t *l, size_t m, uint32_t *
 {
     return (void)t, (void)n, (void)l, (void)m, (void)a, 0;
 }
-static uint32_t no_set_clock(uint32_t *t, size_t n, const struct hc_wall_time *w, uint32_t *l, size_t m, uint32_t *a)
+static uint32_t no_set_clock(uint32_t *t, size_t n, const struct hc_wall_time *w, uint32_t *l, size_t m, uint32_t *a,
+                             int64_t *d)
 {
-    return (void)t, (void)n, (void)w, (void)l, (void)m, (void)a, 0;
+    return (void)t, (void)n, (void)w, (void)l, (void)m, (void)a, (void)d, 0;
 }
 static uint32_t no_get_clock(const uint32_t *t, size_t n, struct hc_wall_time *w) { return (void)t, (void)n, (void)w, 0; }
 static uint32_t no_initiate(uint32_t *t, size_t n) { return (void)t, (void)n, 0; }
@@ -77,6 +78,7 @@ static const struct sides sides = {&library, &plain, &nothing};
 /* ---- What every case works on: the table, the answers, and the timers it is about ---- */
 
 static uint32_t table[WORDS], start_table[WORDS], list[LIST], answer;
+static int64_t moved;
 static struct hc_wall_time now_answer;
 static const struct hc_wall_time present = {2024, 2, 29, 12, 0, 0, 0};
 static struct hc_wall_time dates[MAX_SLOTS + 1];    /* for which each timer was last started */
@@ -105,7 +107,10 @@ static uint32_t do_reset(const struct side *s) { return s->reset(table, words, I
 static uint32_t do_ticks_left(const struct side *s) { return s->ticks_left(table, words, ID(ticking), &answer); }
 static uint32_t do_last_ticks_left(const struct side *s) { return s->ticks_left(table, words, ID(ticking_last), &answer); }
 static uint32_t do_tick(const struct side *s) { return s->tick(table, words, list, LIST, &answer); }
-static uint32_t do_set_clock(const struct side *s) { return s->set_clock(table, words, &dates[dated], list, LIST, &answer); }
+static uint32_t do_set_clock(const struct side *s)
+{
+    return s->set_clock(table, words, &dates[dated], list, LIST, &answer, &moved);
+}
 static uint32_t do_get_clock(const struct side *s) { return s->get_clock(table, words, &now_answer); }
 static uint32_t do_initiate_server(const struct side *s) { return s->initiate_server(table, words); }
 static uint32_t do_server_fire_after(const struct side *s)
@@ -196,7 +201,7 @@ static void start_far(uint32_t index)
 static void choose_date(uint32_t index)
 {
     dates[index] = present;
-    dates[index].minute = 1 + below(50), dates[index].second = below(60);
+    dates[index].minute = 1 + below(50), dates[index].second = below(60), dates[index].ticks = index % RATE;
 }
 
 static void start_date(uint32_t index)
@@ -381,7 +386,7 @@ static void build(uint32_t how_many, const struct filling *filling)
     random_state = 12345;
     slots = how_many, words = HC_TABLE_WORDS(slots);
     must("lay out", plain_lay_out(table, words, slots, RATE));
-    must("set clock", plain_set_clock(table, words, &present, list, LIST, &answer));
+    must("set clock", plain_set_clock(table, words, &present, list, LIST, &answer, &moved));
     if (filling->server)
         must("initiate server", plain_initiate_server(table, words));
     for (uint32_t i = 1; i <= slots; i++)
@@ -436,6 +441,7 @@ static const struct bench {
 /* All that a call can change. */
 struct state {
     uint32_t status, answer, table[WORDS], list[LIST];
+    int64_t moved;
     struct hc_wall_time clock;
 };
 
@@ -446,9 +452,9 @@ static void call_once(const struct bench *bench, const struct side *side, struct
     if (bench->prepare)
         bench->prepare();
     memset(list, 0x55, sizeof list);
-    answer = 0, memset(&now_answer, 0, sizeof now_answer);
+    answer = 0, moved = 0, memset(&now_answer, 0, sizeof now_answer);
     after->status = bench->call(side);
-    after->answer = answer, after->clock = now_answer;
+    after->answer = answer, after->moved = moved, after->clock = now_answer;
     memcpy(after->table, table, sizeof table), memcpy(after->list, list, sizeof list);
 }
 

@@ -20,9 +20,10 @@ enum { ENTRY_ID, ENTRY_ROUTINE, ENTRY_DATA, ENTRY_WORDS };
 
 static uint32_t table[WORDS], fired[LIST];
 
-/* Ticks until the device is ready, cell by cell; in the second map one cell sticks. */
-static const uint32_t smooth[CELLS] = {1, 2, 1, 2, 2, 1};
-static const uint32_t sticky[CELLS] = {1, 2, 1, 9, 2, 1};
+/* Ticks until the device is ready, cell by cell; in the second map one cell sticks. The guard fires in the tick of its limit:
+ * three ticks are in time, four are not. */
+static const uint32_t smooth[CELLS] = {1, 2, 1, 3, 2, 1};
+static const uint32_t sticky[CELLS] = {1, 2, 1, 4, 2, 1};
 
 /* Every status goes through here. A writer that does not read them goes on whatever it is. */
 static bool refused(const char *call, uint32_t status, bool reads_statuses)

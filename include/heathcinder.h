@@ -45,7 +45,7 @@
  * What the caller must see to:
  *   - No pointer is null, and each is aligned for its type.
  *   - A length is true: that many words may be read, and written where the pointer is not to const.
- *   - The table, the list, the wall time and the word for an answer do not overlap.
+ *   - The table, the list, the wall time and the words for answers do not overlap.
  *   - Nobody else reads or writes them during a call: where an interrupt makes calls on the same table, keep it out.
  *   - There is stack: hc_ticks_left takes 32 bytes for each timer ahead of its own, 8.2 KB at most, hc_plan some 800 bytes,
  *     the other calls some 300. The code is for x86-64, uses SSE registers and the red zone, and needs memset and memcpy;
@@ -75,8 +75,8 @@ extern "C" {
 #define HC_UNSATISFIED 13u     /* plan check: the plan does not fit; plan: no plan does */
 #define HC_INCORRECT_STATE 14u /* initiate server: it is initiated; server fire after, server fire when, serve: it is not;
                                   cancel: the timer neither waits nor is queued */
-#define HC_INVALID_CLOCK 20u   /* set clock, fire when, server fire when: date not valid; the last two: not after the
-                                  present second */
+#define HC_INVALID_CLOCK 20u   /* set clock, fire when, server fire when: date not valid; set clock: ticks of T or more;
+                                  fire when, server fire when: not after the present second */
 #define HC_NOT_SOUND 100u      /* any call on a table but lay out: it is not sound */
 #define HC_LIST_TOO_SHORT 101u /* tick, set clock: fewer than 3N words of list; serve: fewer than 3 */
 
@@ -86,15 +86,16 @@ extern "C" {
 #define HC_LIST_WORDS(slots) (3u * (slots))
 #define HC_SERVED_WORDS 3u
 
-/* Years 1988 to 2099, months and days from 1; no time zone, no leap seconds. The ticks field is ignored wherever a wall
- * time is given, and filled by hc_get_clock. */
+/* Years 1988 to 2099, months and days from 1; no time zone, no leap seconds. The ticks field counts ticks into the second:
+ * hc_set_clock takes it, below T, and hc_get_clock gives it; hc_fire_when and hc_server_fire_when ignore it. */
 struct hc_wall_time {
     uint32_t year, month, day, hour, minute, second, ticks;
 };
 
 /* Each call gives its status as the result: HC_NOT_SOUND where the table is not sound (but for hc_lay_out), then the
  * first that applies in the order named with the call, else HC_SUCCESSFUL. The answer of a call on a table goes through the
- * last pointer; on a refusal it is 0, and table and list stay as they were. */
+ * last pointer, and the two of hc_set_clock through the last two; on a refusal they are 0, and table and list stay as they
+ * were. */
 
 /* Makes a table of so many free slots, clock not set, server not initiated; words is the length lent.
  * HC_INVALID_NUMBER: slots not 1 to 255, or ticks_per_second not 1 to 1000. HC_INVALID_SIZE: fewer than
@@ -127,7 +128,7 @@ uint32_t hc_fire_after(uint32_t *table, size_t words, uint32_t id, uint32_t tick
                        uint32_t data);
 
 /* Starts the timer, anew if it waits or is queued: it fires in the first hc_tick or hc_set_clock that leaves the clock at
- * or past that date, after those of the same date.
+ * or past that date, after those of the same date. The ticks field may be any number.
  * HC_NOT_DEFINED: clock not set. HC_INVALID_ADDRESS: routine 0. HC_INVALID_CLOCK: date not valid, or not after the
  * present second. HC_INVALID_ID: the id names no timer. */
 uint32_t hc_fire_when(uint32_t *table, size_t words, uint32_t id, const struct hc_wall_time *when,
@@ -158,11 +159,13 @@ uint32_t hc_ticks_left(const uint32_t *table, size_t words, uint32_t id, uint32_
  * HC_LIST_TOO_SHORT: fewer than HC_LIST_WORDS(N) words of list; the tick is not counted. */
 uint32_t hc_tick(uint32_t *table, size_t words, uint32_t *fired, size_t fired_words, uint32_t *count);
 
-/* Sets the clock to the second given, 0 ticks into it. Dated timers at or before it fire now, listed as by hc_tick, and
- * those of the server are queued. Interval timers do not change, and a clock set back moves no date.
- * HC_LIST_TOO_SHORT: fewer than HC_LIST_WORDS(N) words of list. HC_INVALID_CLOCK: date not valid. */
+/* Sets the clock to the second given, as many ticks into it as the ticks field says. Dated timers at or before that second
+ * fire now, listed as by hc_tick, and those of the server are queued. Interval timers do not change, and a clock set back
+ * moves no date. Answers how many are listed, and how far the clock moved: new minus old in ticks, below 0 where it was set
+ * back, and 0 the first time since the lay out.
+ * HC_LIST_TOO_SHORT: fewer than HC_LIST_WORDS(N) words of list. HC_INVALID_CLOCK: date not valid, or ticks of T or more. */
 uint32_t hc_set_clock(uint32_t *table, size_t words, const struct hc_wall_time *now, uint32_t *fired,
-                      size_t fired_words, uint32_t *count);
+                      size_t fired_words, uint32_t *count, int64_t *moved);
 
 /* Answers the present date and the ticks into its second; all seven are 0 on a refusal.
  * HC_NOT_DEFINED: clock not set. */

@@ -269,7 +269,7 @@ int main(int count, char **arguments)
     printf("damage: seed %" PRIu64 ", %" PRIu64 " calls on %" PRIu64 " tables; %" PRIu64 " refused as not sound, %" PRIu64
            " on tables still sound\n", seed, calls, place.table, refused, harmless);
     report_met();
-    unsigned missing = statuses_not_met() + kinds_not_met() + turns_not_met(TURNS) + parts_not_met();
+    unsigned missing = statuses_not_met() + kinds_not_met() + turns_not_met(TURNS) + date_cases_not_met() + parts_not_met();
     place.call = NULL, place.table = 0;
     if (missing)
         fail("%u cases were not met", missing);

@@ -16,6 +16,7 @@ _Static_assert(HC_TABLE_WORDS(255) == 2050 && HC_LIST_WORDS(255) == 765 && HC_SE
 
 enum { SLOTS = 3, WORDS = HC_TABLE_WORDS(SLOTS), LIST = HC_LIST_WORDS(SLOTS), ONE_SLOT_WORDS = HC_TABLE_WORDS(1) };
 static uint32_t table[WORDS], list[LIST], answer;
+static int64_t moved;
 static const uint32_t one = ID_BASE + 1, two = ID_BASE + 2, three = ID_BASE + 3;
 static unsigned checks;
 
@@ -26,9 +27,22 @@ static void is(const char *what, uint32_t expected, uint32_t came)
         fail("%s: expected %" PRIu32 ", came %" PRIu32, what, expected, came);
 }
 
+static void moved_is(const char *what, int64_t expected)
+{
+    checks++;
+    if (expected != moved)
+        fail("%s: expected the clock to be moved by %" PRId64 " ticks, came %" PRId64, what, expected, moved);
+}
+
 static struct hc_wall_time at(uint32_t year, uint32_t month, uint32_t day, uint32_t hour, uint32_t minute, uint32_t second)
 {
     return (struct hc_wall_time){year, month, day, hour, minute, second, 0};
+}
+
+static struct hc_wall_time with_ticks(struct hc_wall_time time, uint32_t ticks)
+{
+    time.ticks = ticks;
+    return time;
 }
 
 /* ---- The calls, on a slice of so many words and with so many of list, by their own arguments ---- */
@@ -42,7 +56,9 @@ static uint32_t make(struct call c)
     place.call = &c;
     perform(&c, table, list, &came);
     place.call = NULL;
-    answer = came.answer;
+    answer = came.answer, moved = came.moved;
+    if (came.beside)
+        fail("expected the words beside the answers and the wall time given to stay, came a change");
     return came.status;
 }
 
@@ -774,6 +790,205 @@ static void never_passed_on(void)
         }
 }
 
+/* ---- The ticks of a clock that is set ---- */
+
+static const struct hc_wall_time noon = {2000, 1, 1, 12, 0, 0, 0};
+
+/* The clock stands at this second after noon, so many ticks into it. */
+static void clock_is(uint32_t seconds, uint32_t ticks)
+{
+    is("word 2", 1, table[HEADER_CLOCK_SET]);
+    is("word 3", 378691200 + 12 * 3600 + seconds, table[HEADER_SECONDS]);
+    is("word 4", ticks, table[HEADER_CLOCK_TICKS]);
+}
+
+/* A set clock is refused with this status: no word changes, and both answers are 0. */
+static void set_clock_is_refused(const char *what, uint32_t status, struct hc_wall_time time)
+{
+    uint32_t before[WORDS];
+    memcpy(before, table, sizeof before);
+    fill_list();
+    is(what, status, set_clock(time));
+    is("count of a refused set clock", 0, answer);
+    moved_is("refused set clock", 0);
+    for (uint32_t i = 0; i < WORDS; i++)
+        is("word of the table after a refused set clock", before[i], table[i]);
+    list_stays(0);
+}
+
+/* 100 comes first, then 101, then 20 for the date and the ticks alike. */
+static void order_of_set_clock(void)
+{
+    struct hc_wall_time never = at(2000, 13, 1, 0, 0, 0);
+    fresh();
+    set_clock_is_refused("set clock, ticks of T", 20, with_ticks(noon, 10));
+    is("word 2", 0, table[HEADER_CLOCK_SET]);
+    set_clock_is_refused("set clock, no such date", 20, never);
+    set_clock_is_refused("set clock, no such date, ticks of T", 20, with_ticks(never, 10));
+    list_length = LIST - 1;
+    set_clock_is_refused("set clock, a word of list too few, ticks of T", 101, with_ticks(noon, 10));
+    set_clock_is_refused("set clock, a word of list too few, no such date", 101, never);
+    set_clock_is_refused("set clock, a word of list too few", 101, noon);
+    list_length = LIST;
+    table[HEADER_ZERO] = 1;
+    set_clock_is_refused("set clock, not sound, ticks of T", 100, with_ticks(noon, 10));
+    set_clock_is_refused("set clock, not sound", 100, noon);
+    list_length = 0;
+    set_clock_is_refused("set clock, not sound, no list, ticks of T", 100, with_ticks(noon, 10));
+    table[HEADER_ZERO] = 0, list_length = LIST;
+    is("set clock, ticks of T - 1", 0, set_clock(with_ticks(noon, 9)));
+    moved_is("it was not set", 0);
+    clock_is(0, 9);
+    is("fire when a second later", 0, fire_when(one, at(2000, 1, 1, 12, 0, 1)));
+    set_clock_is_refused("set clock past a date, ticks of T", 20, with_ticks(at(2000, 1, 1, 13, 0, 0), 10));
+    set_clock_is_refused("set clock, ticks 4294967295", 20, with_ticks(noon, 4294967295u));
+    set_clock_is_refused("set clock, ticks 2147483648", 20, with_ticks(noon, 2147483648u));
+    set_clock_is_refused("set clock, ticks 65536", 20, with_ticks(noon, 65536));
+    list_length = LIST - 1;
+    set_clock_is_refused("set clock past a date, a word of list too few", 101, at(2000, 1, 1, 13, 0, 0));
+    list_length = LIST, table[HEADER_ZERO] = 1;
+    set_clock_is_refused("set clock past a date, not sound", 100, at(2000, 1, 1, 13, 0, 0));
+    table[HEADER_ZERO] = 0;
+    set_clock_is_refused("set clock, no such date", 20, never);
+    clock_is(0, 9);
+}
+
+/* With one tick in a second there are ticks 0 alone, with 1000 up to 999. */
+static void ticks_of_each_second(void)
+{
+    is("lay out", 0, lay_out(SLOTS, 1));
+    is("set clock", 0, set_clock(noon));
+    set_clock_is_refused("set clock, T 1, ticks 1", 20, with_ticks(noon, 1));
+    clock_is(0, 0);
+    is("lay out", 0, lay_out(SLOTS, 1000));
+    is("set clock, ticks 999", 0, set_clock(with_ticks(noon, 999)));
+    set_clock_is_refused("set clock, T 1000, ticks 1000", 20, with_ticks(noon, 1000));
+    clock_is(0, 999);
+}
+
+/* The clock goes on from its ticks, and a date comes as much sooner. */
+static void clock_goes_on(void)
+{
+    fresh();
+    is("set clock", 0, set_clock(with_ticks(noon, 7)));
+    is("fire when a second later", 0, fire_when(one, at(2000, 1, 1, 12, 0, 1)));
+    is("fire after 5", 0, fire_after(two, 5, 8, 80));
+    nothing_fires(2);
+    clock_is(0, 9);
+    fires(one, 0, 0);
+    clock_is(1, 0);
+    is("set clock", 0, set_clock(with_ticks(noon, 9)));
+    is("none is listed", 0, answer);
+    moved_is("a tick back", -1);
+    is("ticks left", 0, ticks_left(two));
+    is("the interval timer stays", 2, answer);
+    nothing_fires(1);
+    clock_is(1, 0);
+    fires(two, 0, 0);
+}
+
+/* Dates are seconds: one at the new second fires whatever the ticks, and the next one does not. */
+static void dates_are_seconds(void)
+{
+    fresh();
+    is("set clock", 0, set_clock(with_ticks(noon, 9)));
+    is("fire when at the present second", 20, fire_when(one, noon));
+    is("with ticks that are not T", 20, fire_when(one, with_ticks(noon, 9)));
+    is("with ticks of T", 20, fire_when(one, with_ticks(noon, 10)));
+    is("with ticks 4294967295", 20, fire_when(one, with_ticks(noon, 4294967295u)));
+    is("a second later with 4294967295", 0, fire_when(one, with_ticks(at(2000, 1, 1, 12, 0, 1), 4294967295u)));
+    is("its wait is the second", table[HEADER_SECONDS] + 1, word_of(one, SLOT_WAIT));
+    is("two seconds later with ticks of T", 0, fire_when(two, with_ticks(at(2000, 1, 1, 12, 0, 2), 10)));
+    is("its wait is the second", table[HEADER_SECONDS] + 2, word_of(two, SLOT_WAIT));
+    fires(one, 0, 0);
+    is("set clock", 0, set_clock(with_ticks(at(2000, 1, 1, 12, 0, 1), 9)));
+    is("the second one does not fire", 0, answer);
+    moved_is("within a second", 9);
+    is("set clock", 0, set_clock(at(2000, 1, 1, 12, 0, 2)));
+    is("the second one fires", 1, answer);
+    is("its id", two, list[FIRED_ID]);
+    moved_is("a tick on", 1);
+}
+
+/* New minus old in ticks, and 0 where the clock was not set since the lay out. */
+static void how_far_it_moved(void)
+{
+    struct hc_wall_time second_later = at(2000, 1, 1, 12, 0, 1);
+    for (int again = 0; again < 2; again++) {
+        fresh();
+        is("set clock", 0, set_clock(with_ticks(noon, 3)));
+        moved_is("for the first time since the lay out", 0);
+        is("set clock", 0, set_clock(with_ticks(noon, 3)));
+        moved_is("to where it is", 0);
+        is("set clock", 0, set_clock(with_ticks(noon, 4)));
+        moved_is("a tick on", 1);
+        is("set clock", 0, set_clock(with_ticks(noon, 2)));
+        moved_is("two ticks back", -2);
+        is("set clock", 0, set_clock(with_ticks(second_later, 1)));
+        moved_is("a second on, a tick fewer", 9);
+        is("set clock", 0, set_clock(with_ticks(noon, 9)));
+        moved_is("a second back, eight ticks more", -2);
+        nothing_fires(1);
+        is("set clock", 0, set_clock(second_later));
+        moved_is("to where a tick brought it", 0);
+        is("set clock", 0, set_clock(at(2000, 1, 2, 12, 0, 1)));
+        moved_is("a day on", 864000);
+        set_clock_is_refused("set clock, ticks of T", 20, with_ticks(noon, 10));
+        is("set clock", 0, set_clock(at(2000, 1, 1, 12, 0, 1)));
+        moved_is("a day back", -864000);
+    }
+}
+
+/* A clock set to the first second of all is set. */
+static void moved_from_the_first_second(void)
+{
+    fresh();
+    is("set clock", 0, set_clock(at(1988, 1, 1, 0, 0, 0)));
+    moved_is("it was not set", 0);
+    is("set clock", 0, set_clock(at(1988, 1, 1, 0, 0, 1)));
+    moved_is("a second on", 10);
+    is("set clock", 0, set_clock(at(1988, 1, 1, 0, 0, 0)));
+    moved_is("a second back", -10);
+}
+
+/* From the first tick of all to the last and back, for the fewest ticks in a second and the most. */
+static void moved_from_end_to_end(void)
+{
+    static const struct { uint32_t ticks_per_second; int64_t all; } rates[] = {
+        {1, INT64_C(3534451199)}, {2, INT64_C(7068902399)}, {1000, INT64_C(3534451199999)}};
+    for (size_t i = 0; i < sizeof rates / sizeof *rates; i++) {
+        struct hc_wall_time first = at(1988, 1, 1, 0, 0, 0);
+        struct hc_wall_time last = with_ticks(at(2099, 12, 31, 23, 59, 59), rates[i].ticks_per_second - 1);
+        is("lay out", 0, lay_out(SLOTS, rates[i].ticks_per_second));
+        is("set clock", 0, set_clock(first));
+        is("set clock", 0, set_clock(last));
+        moved_is("to the last tick", rates[i].all);
+        nothing_fires(1);
+        is("the clock stands still: word 3", LAST_SECOND, table[HEADER_SECONDS]);
+        is("the clock stands still: word 4", rates[i].ticks_per_second - 1, table[HEADER_CLOCK_TICKS]);
+        is("set clock", 0, set_clock(first));
+        moved_is("to the first tick", -rates[i].all);
+    }
+}
+
+/* Timers of the server at or before the new second are queued, whatever the ticks. */
+static void queued_with_ticks(void)
+{
+    fresh();
+    is("initiate", 0, initiate_server());
+    is("set clock", 0, set_clock(with_ticks(noon, 5)));
+    is("server fire when", 0, server_fire_when(one, with_ticks(at(2000, 1, 1, 12, 0, 1), 10), 7, 70));
+    is("at the present second", 20, server_fire_when(two, with_ticks(noon, 9), 8, 80));
+    is("server fire when", 0, server_fire_when(two, with_ticks(at(2000, 1, 1, 12, 0, 2), 4294967295u), 8, 80));
+    is("set clock", 0, set_clock(with_ticks(at(2000, 1, 1, 12, 0, 1), 9)));
+    is("none is listed", 0, answer);
+    moved_is("a second and four ticks on", 14);
+    queue_is(one, 0, 0);
+    nothing_fires(1);
+    queue_is(one, two, 0);
+    clock_is(2, 0);
+}
+
 static void single_slot(void)
 {
     words = ONE_SLOT_WORDS;
@@ -843,6 +1058,14 @@ int main(void)
     cancel_of_equals();
     cancel_of_each_kind();
     never_passed_on();
+    order_of_set_clock();
+    ticks_of_each_second();
+    clock_goes_on();
+    dates_are_seconds();
+    how_far_it_moved();
+    moved_from_the_first_second();
+    moved_from_end_to_end();
+    queued_with_ticks();
     printf("edges: %u checks\n", checks);
     return 0;
 }

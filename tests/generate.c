@@ -218,10 +218,42 @@ static void spoil_date(struct hc_wall_time *t)
     }
 }
 
+/* Mostly ticks that a second has; else T or more, all bits but one as in such ticks, or any number. */
+static uint32_t random_ticks_field(const struct oracle *o)
+{
+    uint32_t some = below(o->ticks_per_second);
+    switch (below(20)) {
+    case 0:
+    case 1:
+    case 2:
+        return 0;
+    case 3:
+    case 4:
+    case 5:
+        return o->ticks_per_second - 1;
+    case 6:
+    case 7:
+    case 8:
+        return o->clock_ticks;
+    case 9:
+        return o->ticks_per_second;
+    case 10:
+        return near(o->ticks_per_second);
+    case 11:
+        return below(4);
+    case 12:
+        return some ^ 1u << below(32);
+    case 13:
+        return one_in(2) ? UINT32_MAX : random_number();
+    default:
+        return some;
+    }
+}
+
 static void random_date(const struct oracle *o, struct hc_wall_time *t)
 {
     oracle_date_of(random_second(o), t);
-    t->ticks = one_in(2) ? random_number() : 0;
+    t->ticks = random_ticks_field(o);
     if (one_in(8))
         spoil_date(t);
     if (one_in(40))
@@ -246,7 +278,7 @@ static enum call_kind random_kind(const struct oracle *o)
 {
     static const uint32_t weights[CALLS] = {
         [CREATE] = 7, [IDENT] = 3, [CANCEL] = 6, [DELETE] = 4, [FIRE_AFTER] = 5, [FIRE_WHEN] = 6, [FIRE_EVERY] = 5,
-        [RESET] = 4, [TICKS_LEFT] = 3, [TICK] = 10, [SET_CLOCK] = 3, [GET_CLOCK] = 3, [INITIATE_SERVER] = 1,
+        [RESET] = 4, [TICKS_LEFT] = 3, [TICK] = 10, [SET_CLOCK] = 4, [GET_CLOCK] = 3, [INITIATE_SERVER] = 1,
         [SERVER_FIRE_AFTER] = 7, [SERVER_FIRE_WHEN] = 9, [SERVE] = 8};
     enum call_kind kind = weighted_call(weights);
     if (!o->initiated && with_server && one_in(4))

@@ -36,17 +36,20 @@ uint64_t number_argument(int count, char **arguments, int which, uint64_t otherw
 
 static uint64_t random_state;
 
-static void random_seed(uint64_t seed)
-{
-    random_state = seed * 0x9e3779b97f4a7c15u + 0x6a09e667f3bcc909u;
-}
-
 uint32_t random_word(void)
 {
     uint64_t z = random_state += 0x9e3779b97f4a7c15u;
     z = (z ^ z >> 30) * 0xbf58476d1ce4e5b9u;
     z = (z ^ z >> 27) * 0x94d049bb133111ebu;
     return (uint32_t)(z >> 32);
+}
+
+/* States of two seeds must not be a few steps apart: the numbers would be the same ones, a few later. */
+static void random_seed(uint64_t seed)
+{
+    random_state = seed;
+    uint64_t high = random_word();
+    random_state = high << 32 | random_word();
 }
 
 uint32_t below(uint32_t limit)
@@ -271,8 +274,9 @@ void begin(const char *program, uint64_t seed)
 
 enum { BESIDE = 2 };
 
-/* An answer's word with others before and after it that must stay. */
+/* The words for answers, each with others before and after it that must stay. */
 static uint32_t answers[BESIDE + 1 + BESIDE];
+static int64_t moves[BESIDE + 1 + BESIDE];
 static struct hc_wall_time times[BESIDE + 1 + BESIDE];
 
 /* A call with the words lent for it. */
@@ -312,7 +316,7 @@ static uint32_t call_library(const void *arguments)
     case TICK:
         return hc_tick(table, c->words, list, c->fired_words, answer);
     case SET_CLOCK:
-        return hc_set_clock(table, c->words, time, list, c->fired_words, answer);
+        return hc_set_clock(table, c->words, time, list, c->fired_words, answer, &moves[BESIDE]);
     case GET_CLOCK:
         return hc_get_clock(table, c->words, time);
     case INITIATE_SERVER:
@@ -348,24 +352,31 @@ static bool has_answer(enum call_kind kind)
 void perform(const struct call *c, uint32_t *table, uint32_t *list, struct came *came)
 {
     uint32_t answers_before[BESIDE + 1 + BESIDE];
+    int64_t moves_before[BESIDE + 1 + BESIDE];
     struct hc_wall_time times_before[BESIDE + 1 + BESIDE];
     for (int i = 0; i < BESIDE + 1 + BESIDE; i++)
         answers[i] = 0xdeadbeefu + (uint32_t)i;
+    memset(moves, 0x5a, sizeof moves);
     memset(times, 0xa5, sizeof times);
     if (c->kind != GET_CLOCK)
         times[BESIDE] = c->time;
     memcpy(answers_before, answers, sizeof answers);
+    memcpy(moves_before, moves, sizeof moves);
     memcpy(times_before, times, sizeof times);
 
     came->status = watched(call_library, &(struct lent_call){c, table, list});
 
     came->answer = has_answer(c->kind) ? answers[BESIDE] : 0;
+    came->moved = c->kind == SET_CLOCK ? moves[BESIDE] : 0;
     came->clock = (struct hc_wall_time){0, 0, 0, 0, 0, 0, 0};
     if (has_answer(c->kind))
         answers_before[BESIDE] = answers[BESIDE];
+    if (c->kind == SET_CLOCK)
+        moves_before[BESIDE] = moves[BESIDE];
     if (c->kind == GET_CLOCK)
         came->clock = times_before[BESIDE] = times[BESIDE];
-    came->beside = memcmp(answers, answers_before, sizeof answers) != 0 || memcmp(times, times_before, sizeof times) != 0;
+    came->beside = memcmp(answers, answers_before, sizeof answers) != 0 || memcmp(moves, moves_before, sizeof moves) != 0 ||
+                   memcmp(times, times_before, sizeof times) != 0;
 }
 
 static void name_word(ptrdiff_t word, char *text, size_t size)
@@ -428,6 +439,9 @@ static void compare(const struct came *came, const struct outcome *expected)
     if (came->answer != expected->answer)
         fail("status %" PRIu32 ": expected answer %" PRIu32 ", came %" PRIu32, came->status, expected->answer,
              came->answer);
+    if (came->moved != expected->moved)
+        fail("status %" PRIu32 ": expected the clock to be moved by %" PRId64 " ticks, came %" PRId64, came->status,
+             expected->moved, came->moved);
     if (memcmp(&came->clock, &expected->clock, sizeof came->clock) != 0) {
         char wanted[TIME_TEXT], given[TIME_TEXT];
         describe_time(&expected->clock, wanted);
@@ -435,7 +449,7 @@ static void compare(const struct came *came, const struct outcome *expected)
         fail("status %" PRIu32 ": expected %s, came %s", came->status, wanted, given);
     }
     if (came->beside)
-        fail("expected the words beside the answer and the wall time given to stay, came a change");
+        fail("expected the words beside the answers and the wall time given to stay, came a change");
     compare_table("", place.memory, place.words);
     compare_list();
 }
@@ -446,7 +460,7 @@ enum { STATUSES = 102 };
 static uint64_t by_status[CALLS][STATUSES], by_reason[CALLS][REASONS];
 static bool by_pair[CALLS][STATUSES][STATUSES];
 static bool taken_by_kind[CALLS][KINDS], refused_by_kind[CALLS][KINDS];    /* with the id of a timer of the kind */
-static uint32_t turns_met[CALLS];
+static uint32_t turns_met[CALLS], date_cases_met[CALLS];
 static bool taken_off[CALLS][KINDS][QUEUE_PLACES];
 static bool cancels_met[KINDS][EVENTS];     /* accepted or refused with 14, by what befell the timer last */
 
@@ -471,6 +485,7 @@ static void note(const struct call *c, const struct outcome *outcome, const stru
     (accepted ? taken_by_kind : refused_by_kind)[kind][outcome->timer_kind] = true;
     if ((kind == TICK || kind == SET_CLOCK) && accepted)
         turns_met[kind] |= oracle_turns(after, outcome);
+    date_cases_met[kind] |= oracle_date_cases(c, after, outcome);
     if (kind == CANCEL && (accepted || outcome->reason == NOTHING_TO_CANCEL))
         cancels_met[outcome->timer_kind][outcome->last_event] = true;
     if (kind == SERVE)
@@ -552,6 +567,19 @@ unsigned turns_not_met(int turns)
         for (int turn = 0; turn < turns; turn++)
             if (oracle_turn_possible((enum call_kind)kind, (enum turn)turn) && !(turns_met[kind] >> turn & 1)) {
                 printf("  not met: %s in which %s\n", call_names[kind], turn_texts[turn]);
+                missing++;
+            }
+    return missing;
+}
+
+unsigned date_cases_not_met(void)
+{
+    unsigned missing = 0;
+    for (int kind = 0; kind < CALLS; kind++)
+        for (int date_case = 0; date_case < DATE_CASES; date_case++)
+            if (oracle_date_case_possible((enum call_kind)kind, (enum date_case)date_case) &&
+                !(date_cases_met[kind] >> date_case & 1)) {
+                printf("  not met: %s in which %s\n", call_names[kind], date_case_texts[date_case]);
                 missing++;
             }
     return missing;

@@ -35,8 +35,9 @@ uint32_t *expected_of(const struct lent *memory, const uint32_t *word);
 /* ---- Calls ---- */
 struct came {
     uint32_t status, answer;
+    int64_t moved;
     struct hc_wall_time clock;
-    bool beside;            /* a word beside the answer, or the wall time given, was changed */
+    bool beside;            /* a word beside the answers, or the wall time given, was changed */
 };
 
 /* Makes a call of the library's and gives its status. One that touches a closed page, overruns the stack or does not end
@@ -73,11 +74,13 @@ void report_met(void);
 
 /* Each prints the cases that were not met and gives their number: statuses of each call, and where two apply; calls with the
  * id of a timer of each kind; so many of the turns that a tick or set clock may take; timers taken off the queue by each call
- * at each place, and serves of each queue with each list; cancels of timers by what befell them last. */
+ * at each place, and serves of each queue with each list; cancels of timers by what befell them last; calls with a date by
+ * its ticks field and by how far the clock moves. */
 unsigned statuses_not_met(void);
 unsigned kinds_not_met(void);
 unsigned turns_not_met(int turns);
 unsigned queue_not_met(void);
 unsigned cancels_not_met(void);
+unsigned date_cases_not_met(void);
 
 #endif

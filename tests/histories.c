@@ -1,7 +1,8 @@
-/* Histories: what must fire, be queued and be handed out, and what there is to cancel, is kept from the calls and their
- * statuses alone, as absolute ticks and dates and numbers of serves, in the words of the specification's claim about whole
- * lists of calls; the calendar is the C library's. No table is looked at, but for that claim's last sentence: the chains give
- * the waiting timers in firing order by next, and in reverse by previous; and so does the queue those that are queued.
+/* Histories: what must fire, be queued and be handed out, what there is to cancel, and how far the clock is moved, is kept
+ * from the calls and their statuses alone, as absolute ticks and dates and numbers of serves, in the words of the
+ * specification's claim about whole lists of calls; the calendar is the C library's. No table is looked at, but for that
+ * claim's last sentence: the chains give the waiting timers in firing order by next, and in reverse by previous; and so does
+ * the queue those that are queued.
  * Arguments: seed, number of calls. */
 #include "harness.h"
 #include "libc_calendar.h"
@@ -38,6 +39,10 @@ static uint32_t slots, ticks_per_second;
  * after those made when it was queued, one sooner for each taken off ahead of it; 0 where it is not queued. */
 static uint64_t serves, handed_by[MAX_SLOTS + 1];
 static bool initiated, sooner[MAX_SLOTS + 1];
+
+/* Set clocks by what they answer of the clock, and refused for their ticks alone. */
+enum setting { SET_AT_FIRST, MOVED_BY_NONE, MOVED_ON, MOVED_BACK, REFUSED_FOR_TICKS, SETTINGS };
+static uint64_t settings[SETTINGS];
 
 static uint64_t calls, fired_in_all, fired_again, served_in_all, served_sooner, accepted[CALLS], nothing_after[ENDINGS];
 static uint32_t span;
@@ -221,10 +226,27 @@ static uint32_t after_tick(uint32_t *list)
     return count + fire_dated(clock_ticks / ticks_per_second, list + list_words(count));
 }
 
-static uint32_t after_set_clock(const struct call *c, uint32_t *list)
+/* How far a set clock moves the clock to that tick. */
+static int64_t moved_to(uint64_t tick)
 {
+    int64_t moved = (int64_t)tick - (int64_t)clock_ticks;
+    if (!clock_set) {
+        settings[SET_AT_FIRST] += tick > 0;
+        return 0;
+    }
+    settings[moved == 0 ? MOVED_BY_NONE : moved > 0 ? MOVED_ON : MOVED_BACK]++;
+    return moved;
+}
+
+/* The clock starts with the ticks added. */
+static uint32_t after_set_clock(const struct call *c, const struct came *came, uint32_t *list)
+{
+    uint64_t tick = libc_seconds_of(&c->time) * ticks_per_second + c->time.ticks;
+    int64_t moved = moved_to(tick);
+    if (came->moved != moved)
+        fail("expected the clock to be moved by %" PRId64 " ticks, came %" PRId64, moved, came->moved);
     clock_set = true;
-    clock_ticks = libc_seconds_of(&c->time) * ticks_per_second;
+    clock_ticks = tick;
     return fire_dated(clock_ticks / ticks_per_second, list);
 }
 
@@ -297,6 +319,29 @@ static void expect_cancel(uint32_t id, uint32_t status)
         fail("expected status %" PRIu32 " by the calls before, came %" PRIu32, expected, status);
     if (status == HC_INCORRECT_STATE)
         nothing_after[ending[id - ID_BASE]]++;
+}
+
+/* The C library has that date, and it is one of the years 1988 to 2099. */
+static bool valid(const struct hc_wall_time *time)
+{
+    struct hc_wall_time date = *time;
+    date.ticks = 0;
+    struct hc_wall_time carried = libc_carried(&date);
+    return memcmp(&carried, &date, sizeof date) == 0 && date.year >= 1988 && date.year <= 2099;
+}
+
+/* Whether a set clock is accepted is known without the calls before it, but for the table's numbers. */
+static void expect_set_clock(const struct call *c, uint32_t status)
+{
+    uint32_t expected = HC_SUCCESSFUL;
+    bool date_valid = valid(&c->time);
+    if (c->fired_words < list_words(slots))
+        expected = HC_LIST_TOO_SHORT;
+    else if (!date_valid || c->time.ticks >= ticks_per_second)
+        expected = HC_INVALID_CLOCK;
+    if (status != expected)
+        fail("expected status %" PRIu32 " by the calls before, came %" PRIu32, expected, status);
+    settings[REFUSED_FOR_TICKS] += status == HC_INVALID_CLOCK && date_valid;
 }
 
 /* The other calls give 14 for the server alone: where it is initiated, or where it is not. */
@@ -381,7 +426,7 @@ static void learn(const struct call *c, const struct came *came, const uint32_t 
         break;
     case TICK:
     case SET_CLOCK:
-        count = c->kind == TICK ? after_tick(expected) : after_set_clock(c, expected);
+        count = c->kind == TICK ? after_tick(expected) : after_set_clock(c, came, expected);
         expect_list(came, expected, count, list_before, list, c->fired_words);
         fired_in_all += count;
         break;
@@ -457,7 +502,9 @@ static void random_time(struct hc_wall_time *t)
         second += below(span);
     }
     *t = libc_date_of(second > LAST_SECOND ? 0 : second);
-    t->ticks = random_word();
+    t->ticks = one_in(10) ? random_word() : below(ticks_per_second + (one_in(10) ? 1 : 0));
+    if (clock_set && one_in(4))
+        t->ticks = (uint32_t)(clock_ticks % ticks_per_second);
     if (one_in(12))
         t->day = 29 + below(4);
     if (one_in(30))
@@ -514,11 +561,15 @@ static void make(struct call *c, uint32_t *table)
     perform(c, table, list, &came);
     if (c->kind == CANCEL)
         expect_cancel(c->id, came.status);
+    else if (c->kind == SET_CLOCK)
+        expect_set_clock(c, came.status);
     else if (came.status == HC_INCORRECT_STATE)
         expect_server_refusal(c->kind);
     if (came.status != 0) {
         if (memcmp(list, list_before, c->fired_words * sizeof *list) != 0)
             fail("status %" PRIu32 ": expected the list to stay, came a change", came.status);
+        if (came.moved != 0)
+            fail("status %" PRIu32 ": expected the clock to be moved by 0 ticks, came %" PRId64, came.status, came.moved);
         return;
     }
     accepted[c->kind]++;
@@ -539,7 +590,13 @@ static void report(uint64_t seed)
     puts(" accepted");
     printf("  nothing to cancel: never started %" PRIu64 ", fired %" PRIu64 ", cancelled %" PRIu64 ", served %" PRIu64 "\n",
            nothing_after[NEVER_BEGUN], nothing_after[BY_FIRING], nothing_after[BY_CANCEL], nothing_after[BY_SERVE]);
+    printf("  the clock: set at first %" PRIu64 ", not moved %" PRIu64 ", moved on %" PRIu64 ", moved back %" PRIu64
+           ", refused for the ticks alone %" PRIu64 "\n", settings[SET_AT_FIRST], settings[MOVED_BY_NONE],
+           settings[MOVED_ON], settings[MOVED_BACK], settings[REFUSED_FOR_TICKS]);
     place.call = NULL, place.table = 0;
+    for (int i = 0; i < SETTINGS; i++)
+        if (settings[i] == 0)
+            fail("expected the clock to be set at first, again, on and back, and its ticks refused, came none of one sort");
     for (int i = 0; i < CALLS; i++)
         if (accepted[i] == 0)
             fail("expected %s to be accepted at times, came only refusals", call_names[i]);
@@ -559,7 +616,7 @@ int main(int count, char **arguments)
     static uint32_t table[MAX_TABLE];
     begin("histories", seed);
     while (calls < wanted) {
-        static const uint32_t sizes[] = {1, 2, 3, 5, 12, 40, 255}, rates[] = {1, 1, 2, 3, 10}, spans[] = {2, 4, 12, 60};
+        static const uint32_t sizes[] = {1, 2, 3, 5, 12, 40, 255}, rates[] = {1, 1, 2, 3, 10, 1000}, spans[] = {2, 4, 12, 60};
         struct call c = {.kind = LAY_OUT};
         c.slots = ONE_OF(sizes);
         c.ticks_per_second = ONE_OF(rates);

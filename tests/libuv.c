@@ -1,9 +1,11 @@
 /* libuv's timers on a clock of our own, one millisecond a tick, as a second timer list for interval timers, periodic ones as
  * libuv's repeating ones: the same timers must fire, in the same order among equals, each with routine and data of its last
- * start, as many ticks must be left, and only the timers that libuv calls active can be cancelled.
+ * start, as many ticks must be left, and only the timers that libuv calls active can be cancelled. The wall clock is libuv's
+ * time and an offset: to set it changes no timer, and moves it by as much as the offset changes.
  * Arguments: seed, number of calls. */
 #define _DEFAULT_SOURCE
 #include "harness.h"
+#include "libc_calendar.h"
 
 #include <inttypes.h>
 #include <stdio.h>
@@ -28,7 +30,7 @@ int clock_getres(clockid_t clock, struct timespec *step)
     return 0;
 }
 
-enum { SLOTS = 200 };
+enum { SLOTS = 200, TICKS_PER_SECOND = 1000, DAY = 86400 };
 static uv_loop_t *loop;
 static uv_timer_t timers[SLOTS + 1];
 static struct {
@@ -36,7 +38,9 @@ static struct {
     bool periodic;
 } last_start[SLOTS + 1];
 static uint32_t fired[SLOTS], fired_count;
-static uint64_t calls, fires, periodic_fires, cancels, idle_cancels;
+static bool clock_set;
+static int64_t offset;      /* of the wall clock against libuv's time, in ticks, once it is set */
+static uint64_t calls, fires, periodic_fires, cancels, idle_cancels, sets, sets_back;
 
 static void note_fired(uv_timer_t *timer)
 {
@@ -127,8 +131,30 @@ static void tick(void)
     fires += fired_count;
 }
 
+/* To a second that is a day or more before the clock's last, where it would stand still. */
+static void set_clock(void)
+{
+    struct came came;
+    struct call c = {.kind = SET_CLOCK, .fired_words = HC_LIST_WORDS(SLOTS), .time = libc_date_of(below(LAST_SECOND - DAY))};
+    c.time.ticks = below(TICKS_PER_SECOND);
+    int64_t before = offset;
+    offset = (int64_t)libc_seconds_of(&c.time) * TICKS_PER_SECOND + c.time.ticks - (int64_t)uv_now(loop);
+    int64_t moved = clock_set ? offset - before : 0;
+    make(&c, 0, &came);
+    if (came.answer != 0)
+        fail("expected no timer to fire, came %" PRIu32, came.answer);
+    if (came.moved != moved)
+        fail("expected the clock to be moved by %" PRId64 " ticks, came %" PRId64, moved, came.moved);
+    clock_set = true;
+    sets++, sets_back += moved < 0;
+}
+
 static void one_call(void)
 {
+    if (one_in(40)) {
+        set_clock();
+        return;
+    }
     uint32_t index = 1 + below(SLOTS), ticks = 1 + below(one_in(3) ? 40 : 6);
     struct call c = {.id = ID_BASE + index, .ticks = one_in(100) ? UINT32_MAX : ticks};
     c.routine = 1 + below(UINT32_MAX), c.data = random_word();
@@ -167,7 +193,7 @@ int main(int count, char **arguments)
 {
     uint64_t seed = number_argument(count, arguments, 1, 1);
     uint64_t wanted = number_argument(count, arguments, 2, 1000000);
-    struct call lay_out = {.kind = LAY_OUT, .slots = SLOTS, .ticks_per_second = 1000};
+    struct call lay_out = {.kind = LAY_OUT, .slots = SLOTS, .ticks_per_second = TICKS_PER_SECOND};
     struct came came;
     begin("libuv", seed);
     loop = uv_default_loop();
@@ -183,11 +209,13 @@ int main(int count, char **arguments)
     while (calls < wanted)
         one_call();
     printf("libuv %s: seed %" PRIu64 ", %" PRIu64 " calls, %" PRIu64 " timers fired, %" PRIu64 " of them periodic; %" PRIu64
-           " cancels, %" PRIu64 " of them of idle timers\n",
-           uv_version_string(), seed, calls, fires, periodic_fires, cancels, idle_cancels);
+           " cancels, %" PRIu64 " of them of idle timers; the clock set %" PRIu64 " times, %" PRIu64 " of them back\n",
+           uv_version_string(), seed, calls, fires, periodic_fires, cancels, idle_cancels, sets, sets_back);
     if (periodic_fires == 0 || periodic_fires == fires)
         fail("expected timers to fire, periodic ones and others, came none of one sort");
     if (idle_cancels == 0 || idle_cancels == cancels)
         fail("expected cancels of active timers and of idle ones, came none of one sort");
+    if (sets_back == 0 || sets_back == sets)
+        fail("expected the clock to be set on and back, came none of one sort");
     return 0;
 }

@@ -18,7 +18,7 @@ const char *const reason_texts[REASONS] = {
     [ID_ABOVE] = "id above the last", [ID_FREE] = "id of a free slot", [TICKS_ZERO] = "ticks 0",
     [ROUTINE_ZERO] = "routine 0", [CLOCK_UNSET] = "clock not set", [BAD_YEAR] = "year", [BAD_MONTH] = "month",
     [BAD_DAY] = "day", [BAD_HOUR] = "hour", [BAD_MINUTE] = "minute", [BAD_SECOND] = "second",
-    [DATE_NOT_AFTER] = "date not after the present second", [NEVER_STARTED_YET] = "kind 1",
+    [DATE_NOT_AFTER] = "date not after the present second", [BAD_TICKS] = "ticks of T or more", [NEVER_STARTED_YET] = "kind 1",
     [IDLE_BY_DATE] = "kind 3", [WAITS_FOR_DATE] = "kind 5", [IDLE_SERVER_BY_DATE] = "kind 9",
     [SERVER_WAITS_FOR_DATE] = "kind 11", [QUEUED_BY_DATE] = "kind 13"};
 
@@ -27,7 +27,7 @@ const uint32_t reason_statuses[REASONS] = {
     [NOTHING_TO_CANCEL] = 14, [SLOTS_BELOW] = 10, [SLOTS_ABOVE] = 10, [TPS_BELOW] = 10, [TPS_ABOVE] = 10,
     [WORDS_SHORT] = 8, [NAME_ZERO] = 3, [NAME_UNKNOWN] = 3, [NONE_FREE] = 5, [ID_BELOW] = 4, [ID_ABOVE] = 4, [ID_FREE] = 4,
     [TICKS_ZERO] = 10, [ROUTINE_ZERO] = 9, [CLOCK_UNSET] = 11, [BAD_YEAR] = 20, [BAD_MONTH] = 20, [BAD_DAY] = 20,
-    [BAD_HOUR] = 20, [BAD_MINUTE] = 20, [BAD_SECOND] = 20, [DATE_NOT_AFTER] = 20,
+    [BAD_HOUR] = 20, [BAD_MINUTE] = 20, [BAD_SECOND] = 20, [DATE_NOT_AFTER] = 20, [BAD_TICKS] = 20,
     [NEVER_STARTED_YET] = 11, [IDLE_BY_DATE] = 11, [WAITS_FOR_DATE] = 11, [IDLE_SERVER_BY_DATE] = 11,
     [SERVER_WAITS_FOR_DATE] = 11, [QUEUED_BY_DATE] = 11};
 
@@ -58,6 +58,23 @@ const char *const turn_texts[TURNS] = {
     [DATED_QUEUED_AFTER_TICKING] = "a dated timer is queued after an interval timer",
     [QUEUED_BEHIND_OTHERS] = "a timer is queued behind others from before",
     [QUEUED_AND_NONE_FIRED] = "a timer is queued and none fires"};
+
+const char *const date_case_texts[DATE_CASES] = {
+    [SET_FIRST] = "the clock was not set, and a later second than the first is",
+    [SET_FIRST_WITH_TICKS] = "the clock was not set, and ticks above 0 are", [SET_ALIKE] = "the clock stays where it is",
+    [SET_FORWARD] = "the clock is set forward", [SET_BACK] = "the clock is set back",
+    [FORWARD_IN_THE_SECOND] = "the clock is set forward within its second",
+    [BACK_IN_THE_SECOND] = "the clock is set back within its second",
+    [FORWARD_TO_FEWER_TICKS] = "the clock is set to a later second and fewer ticks",
+    [BACK_TO_MORE_TICKS] = "the clock is set to an earlier second and more ticks",
+    [FORWARD_BEYOND_32_BITS] = "the clock is set forward by 4294967296 ticks or more",
+    [BACK_BEYOND_32_BITS] = "the clock is set back by 4294967296 ticks or more",
+    [SET_TO_LAST_TICK] = "the ticks are T - 1, above 0", [REFUSED_AT_T] = "ticks of T alone are refused",
+    [REFUSED_FAR_ABOVE] = "ticks of 4294967295 alone are refused",
+    [TICKS_AND_NOT_SOUND] = "a table not sound is refused before the ticks alone",
+    [TICKS_AND_LIST_SHORT] = "a list too short is refused before the ticks alone",
+    [TICKS_IGNORED] = "ticks of T or more are ignored",
+    [TICKS_PAST_THE_CLOCK] = "the present second is refused with more ticks than the clock's"};
 
 const char *const part_texts[PARTS] = {
     [PART_HEADER_SHORT] = "fewer than 10 words", [PART_SLOTS_BELOW] = "no slots", [PART_SLOTS_ABOVE] = "more than 255 slots",
@@ -242,6 +259,12 @@ void oracle_date_of(uint32_t seconds, struct hc_wall_time *time)
 
 /* ---- Refusals ---- */
 
+/* The reasons for which the clock is not set to this, where a second has so many ticks. */
+static uint64_t clock_faults(const struct hc_wall_time *time, uint32_t ticks_per_second)
+{
+    return date_faults(time) | bit(BAD_TICKS, time->ticks >= ticks_per_second);
+}
+
 static uint64_t id_faults(const struct oracle *o, uint32_t id)
 {
     if (id < ID_BASE + 1)
@@ -335,7 +358,7 @@ static uint64_t faults_of(const struct oracle *o, const struct call *c)
     case TICK:
         return bit(LIST_SHORT, list_short);
     case SET_CLOCK:
-        return bit(LIST_SHORT, list_short) | date_faults(&c->time);
+        return bit(LIST_SHORT, list_short) | clock_faults(&c->time, o->ticks_per_second);
     case GET_CLOCK:
         return bit(CLOCK_UNSET, !o->clock_set);
     case INITIATE_SERVER:
@@ -380,6 +403,7 @@ static uint64_t fire_when_argument_faults(const struct call *c, bool clock_unset
 static uint64_t argument_faults(const struct call *c, const uint32_t *table)
 {
     bool list_short = c->words > HEADER_SLOTS && c->fired_words < list_words(table[HEADER_SLOTS]);
+    uint32_t ticks_per_second = c->words > HEADER_TICKS_PER_SECOND ? table[HEADER_TICKS_PER_SECOND] : UINT32_MAX;
     bool clock_unset = c->words > HEADER_CLOCK_SET && table[HEADER_CLOCK_SET] == 0;
     bool initiated = c->words > HEADER_INITIATED && table[HEADER_INITIATED] == 1;
     bool not_initiated = c->words > HEADER_INITIATED && table[HEADER_INITIATED] == 0;
@@ -403,7 +427,7 @@ static uint64_t argument_faults(const struct call *c, const uint32_t *table)
     case TICK:
         return bit(LIST_SHORT, list_short);
     case SET_CLOCK:
-        return bit(LIST_SHORT, list_short) | date_faults(&c->time);
+        return bit(LIST_SHORT, list_short) | clock_faults(&c->time, ticks_per_second);
     case GET_CLOCK:
         return bit(CLOCK_UNSET, clock_unset);
     case INITIATE_SERVER:
@@ -424,6 +448,9 @@ static void clear(struct outcome *outcome)
     outcome->queue_place = NOT_QUEUED;
     outcome->last_event = CREATED;
     outcome->queued_before = outcome->answer = outcome->due_count = 0;
+    outcome->clock_set_before = false;
+    outcome->seconds_before = outcome->clock_ticks_before = 0;
+    outcome->moved = 0;
     outcome->clock = (struct hc_wall_time){0, 0, 0, 0, 0, 0, 0};
 }
 
@@ -510,13 +537,19 @@ static void fire_due(struct oracle *o, int started, uint64_t limit, struct outco
             go_back(o, &o->timer[list[i].index]);
 }
 
+/* The clock as ticks since its first. */
+static uint64_t clock_reading(const struct oracle *o)
+{
+    return (uint64_t)o->seconds * o->ticks_per_second + o->clock_ticks;
+}
+
 static void tick(struct oracle *o, struct outcome *out)
 {
     o->ticks++;
     fire_due(o, BY_INTERVAL, o->ticks, out);
     if (!o->clock_set)
         return;
-    uint64_t clock = (uint64_t)o->seconds * o->ticks_per_second + o->clock_ticks + 1;
+    uint64_t clock = clock_reading(o) + 1;
     if (clock >= ((uint64_t)LAST_SECOND + 1) * o->ticks_per_second)
         return;
     o->seconds = (uint32_t)(clock / o->ticks_per_second);
@@ -573,11 +606,16 @@ static void lay_out(struct oracle *o, const struct call *c)
     o->ticks_per_second = c->ticks_per_second;
 }
 
+/* It moved from one reading to the other. (The baseline multiplies the difference of the seconds.) */
 static void set_clock(struct oracle *o, const struct call *c, struct outcome *out)
 {
+    uint64_t before = clock_reading(o);
     oracle_seconds_of(&c->time, &o->seconds);
+    o->clock_ticks = c->time.ticks;
+    uint64_t after = clock_reading(o);
+    if (o->clock_set)
+        out->moved = after >= before ? (int64_t)(after - before) : -(int64_t)(before - after);
     o->clock_set = true;
-    o->clock_ticks = 0;
     fire_due(o, BY_DATE, o->seconds, out);
 }
 
@@ -676,6 +714,8 @@ void oracle_call(struct oracle *state, const struct call *call, struct outcome *
         outcome->last_event = state->timer[index].last_event;
     }
     outcome->queued_before = state->queued;
+    outcome->clock_set_before = state->clock_set;
+    outcome->seconds_before = state->seconds, outcome->clock_ticks_before = state->clock_ticks;
     outcome->applying = faults_of(state, call);
     outcome->reason = first_reason(call->kind, outcome->applying);
     outcome->status = reason_statuses[outcome->reason];
@@ -994,7 +1034,8 @@ bool oracle_possible(enum call_kind kind, enum reason reason)
     case TICK:
         return reason == TABLE_NOT_SOUND || reason == LIST_SHORT;
     case SET_CLOCK:
-        return reason == TABLE_NOT_SOUND || reason == LIST_SHORT || (reason >= BAD_YEAR && reason <= BAD_SECOND);
+        return reason == TABLE_NOT_SOUND || reason == LIST_SHORT || (reason >= BAD_YEAR && reason <= BAD_SECOND) ||
+               reason == BAD_TICKS;
     case GET_CLOCK:
         return reason == TABLE_NOT_SOUND || reason == CLOCK_UNSET;
     case INITIATE_SERVER:
@@ -1135,6 +1176,66 @@ bool oracle_turn_possible(enum call_kind kind, enum turn turn)
         return turn == DATED_QUEUED_AFTER_FIRED || turn == DATED_FIRED_AFTER_QUEUED || turn == DATED_QUEUED_AFTER_QUEUED ||
                turn == QUEUED_BEHIND_OTHERS || turn == QUEUED_AND_NONE_FIRED;
     return kind == TICK;
+}
+
+static uint32_t date_case(enum date_case date_case, bool met)
+{
+    return met ? 1u << date_case : 0;
+}
+
+/* What an accepted set clock came to. */
+static uint32_t cases_of_set(const struct oracle *after, const struct outcome *out)
+{
+    uint32_t second = after->seconds, ticks = after->clock_ticks, before = out->seconds_before;
+    uint32_t cases = date_case(SET_TO_LAST_TICK, ticks > 0 && ticks == after->ticks_per_second - 1);
+    if (!out->clock_set_before)
+        return cases | date_case(SET_FIRST, second > 0) | date_case(SET_FIRST_WITH_TICKS, ticks > 0);
+    bool more = ticks > out->clock_ticks_before, fewer = ticks < out->clock_ticks_before;
+    return cases | date_case(SET_ALIKE, second == before && !more && !fewer) |
+           date_case(SET_FORWARD, second > before) | date_case(SET_BACK, second < before) |
+           date_case(FORWARD_IN_THE_SECOND, second == before && more) |
+           date_case(BACK_IN_THE_SECOND, second == before && fewer) |
+           date_case(FORWARD_TO_FEWER_TICKS, second > before && fewer) |
+           date_case(BACK_TO_MORE_TICKS, second < before && more) |
+           date_case(FORWARD_BEYOND_32_BITS, out->moved > (int64_t)UINT32_MAX) |
+           date_case(BACK_BEYOND_32_BITS, out->moved < -(int64_t)UINT32_MAX);
+}
+
+/* What a refused set clock came to whose date is valid, but for the ticks. */
+static uint32_t cases_of_ticks(const struct call *c, const struct oracle *after, const struct outcome *out)
+{
+    return date_case(TICKS_AND_NOT_SOUND, out->reason == TABLE_NOT_SOUND) |
+           date_case(TICKS_AND_LIST_SHORT, out->reason == LIST_SHORT) |
+           date_case(REFUSED_AT_T, out->reason == BAD_TICKS && c->time.ticks == after->ticks_per_second) |
+           date_case(REFUSED_FAR_ABOVE, out->reason == BAD_TICKS && c->time.ticks == UINT32_MAX);
+}
+
+/* What a fire when or server fire when came to. */
+static uint32_t cases_of_start(const struct call *c, const struct oracle *after, const struct outcome *out)
+{
+    uint32_t second, ticks = c->time.ticks;
+    oracle_seconds_of(&c->time, &second);
+    bool present = out->reason == DATE_NOT_AFTER && second == after->seconds;
+    return date_case(TICKS_IGNORED, out->reason == ACCEPTED && ticks >= after->ticks_per_second) |
+           date_case(TICKS_PAST_THE_CLOCK, present && ticks > after->clock_ticks && ticks < after->ticks_per_second);
+}
+
+uint32_t oracle_date_cases(const struct call *c, const struct oracle *after, const struct outcome *out)
+{
+    if (c->kind == FIRE_WHEN || c->kind == SERVER_FIRE_WHEN)
+        return cases_of_start(c, after, out);
+    if (c->kind != SET_CLOCK)
+        return 0;
+    if (out->reason == ACCEPTED)
+        return cases_of_set(after, out);
+    return (out->applying >> BAD_TICKS & 1) && !date_faults(&c->time) ? cases_of_ticks(c, after, out) : 0;
+}
+
+bool oracle_date_case_possible(enum call_kind kind, enum date_case date_case)
+{
+    if (kind == FIRE_WHEN || kind == SERVER_FIRE_WHEN)
+        return date_case == TICKS_IGNORED || date_case == TICKS_PAST_THE_CLOCK;
+    return kind == SET_CLOCK && date_case < TICKS_IGNORED;
 }
 
 #define KIND_BIT(kind) (1u << (kind))

@@ -80,7 +80,7 @@ enum reason {
     NAME_ZERO, NAME_UNKNOWN, NONE_FREE,
     ID_BELOW, ID_ABOVE, ID_FREE,
     TICKS_ZERO, ROUTINE_ZERO, CLOCK_UNSET,
-    BAD_YEAR, BAD_MONTH, BAD_DAY, BAD_HOUR, BAD_MINUTE, BAD_SECOND, DATE_NOT_AFTER,
+    BAD_YEAR, BAD_MONTH, BAD_DAY, BAD_HOUR, BAD_MINUTE, BAD_SECOND, DATE_NOT_AFTER, BAD_TICKS,
     NEVER_STARTED_YET, IDLE_BY_DATE, WAITS_FOR_DATE, IDLE_SERVER_BY_DATE, SERVER_WAITS_FOR_DATE, QUEUED_BY_DATE,
     REASONS
 };
@@ -100,7 +100,10 @@ struct outcome {
     enum queue_place queue_place;   /* before the call, of that timer */
     enum event last_event;          /* before the call, of that timer; CREATED if there is none */
     uint32_t queued_before;         /* timers in the queue */
+    bool clock_set_before;
+    uint32_t seconds_before, clock_ticks_before;
     uint32_t answer;
+    int64_t moved;                  /* set clock's second answer */
     struct hc_wall_time clock;      /* get clock's answer */
     uint32_t fired[MAX_LIST];       /* as many entries as the answer, for tick, set clock and serve */
     uint32_t due[MAX_SLOTS], due_count;     /* the slots that came due in a tick or set clock, fired and queued, in order */
@@ -140,6 +143,15 @@ enum turn {
 };
 _Static_assert(TURNS <= 32, "a set of turns fits a word");
 
+/* What a set clock, fire when or server fire when may come to by its ticks field and by the clock before it, a bit each in
+ * what oracle_date_cases gives. */
+enum date_case {
+    SET_FIRST, SET_FIRST_WITH_TICKS, SET_ALIKE, SET_FORWARD, SET_BACK, FORWARD_IN_THE_SECOND, BACK_IN_THE_SECOND,
+    FORWARD_TO_FEWER_TICKS, BACK_TO_MORE_TICKS, FORWARD_BEYOND_32_BITS, BACK_BEYOND_32_BITS, SET_TO_LAST_TICK, REFUSED_AT_T,
+    REFUSED_FAR_ABOVE, TICKS_AND_NOT_SOUND, TICKS_AND_LIST_SHORT, TICKS_IGNORED, TICKS_PAST_THE_CLOCK, DATE_CASES
+};
+_Static_assert(DATE_CASES <= 32, "a set of cases fits a word");
+
 /* The parts of soundness, a bit each in what oracle_broken gives. */
 enum part {
     PART_HEADER_SHORT, PART_SLOTS_BELOW, PART_SLOTS_ABOVE, PART_WORDS, PART_TPS, PART_CLOCK_SET, PART_SECONDS,
@@ -159,6 +171,7 @@ extern const uint32_t reason_statuses[REASONS];
 extern const char *const queue_place_texts[QUEUE_PLACES];
 extern const char *const event_texts[EVENTS];
 extern const char *const turn_texts[TURNS];
+extern const char *const date_case_texts[DATE_CASES];
 extern const char *const part_texts[PARTS];
 
 /* What the call gives on this state, and the state after it. */
@@ -189,6 +202,11 @@ bool oracle_pair_possible(enum call_kind kind, uint32_t first, uint32_t second);
 /* What an accepted tick or set clock came to that gave this and left this state; and may this call come to that. */
 uint32_t oracle_turns(const struct oracle *after, const struct outcome *outcome);
 bool oracle_turn_possible(enum call_kind kind, enum turn turn);
+
+/* What a call came to that gave this and left this state, or that refused the table as not sound; and may this call come to
+ * that. */
+uint32_t oracle_date_cases(const struct call *call, const struct oracle *after, const struct outcome *outcome);
+bool oracle_date_case_possible(enum call_kind kind, enum date_case date_case);
 
 /* Does the call take an id. */
 bool oracle_takes_id(enum call_kind kind);

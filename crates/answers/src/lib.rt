@@ -17,6 +17,12 @@ pub enum Reading {
     Unread(Status),
 }
 
+// What set clock answers: how many timers fired, or refused; and how far the clock moved, in ticks, 0 where it is refused.
+pub struct Setting {
+    pub answer: Answer,
+    pub moved: i64,
+}
+
 // The status of an answer, as a number.
 pub fn status_of(answer: Answer) -> u32
     ensures { λ r. ⌜ r ≡ statusOf answer ⌝ }

@@ -71,7 +71,7 @@ before lengths i = total (take i lengths)
 abbrev pub daysOf : WallTime → ℕ
 daysOf w = before years (w .year - 1988) + before (monthsOf (w .year)) (w .month - 1) + (w .day - 1)
 
--- and the seconds. "The ticks field of a wall time is ignored everywhere"
+-- and the seconds, whatever the ticks field: set clock alone takes it
 unfoldable pub secondsOf : WallTime → ℕ
 secondsOf w = ((daysOf w * 24 + w .hour) * 60 + w .minute) * 60 + w .second
 

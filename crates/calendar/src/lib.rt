@@ -5,7 +5,7 @@ ghost use Prim.Native.Nat.{_+_, _-_, _*_, _/_, _<_, _≤_};
 ghost use lib.ListN.{getD};
 ghost use Rattle.calendar.specs.Calendar.{leapFlag, monthsOf, valid, total, before, years, daysOf, secondsOf, lastSecond, dateOf, instantOf, dateAnswer};
 
-// The ticks of a wall time are ignored everywhere; `from_seconds` gives zero.
+// The ticks into the second are no matter of the calendar: set clock alone takes them; `from_seconds` gives zero.
 pub struct WallTime {
     pub year: u32,
     pub month: u32,

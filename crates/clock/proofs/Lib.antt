@@ -2,3 +2,4 @@
 pub mod Verdicts
 pub mod Lists
 pub mod Clocks
+pub mod Differences

@@ -1,14 +1,21 @@
 // The clock: a tick, set clock and get clock. Their contracts are as those of crate `timer`; `readingStatus` and `readingAnswer`
 // (answers/specs/Answers.antt) say what get clock's answer is in document 01's numbers.
 ghost use mathlib.Core.Path.{_≡_};
+ghost use mathlib.Core.Bool.{true};
 ghost use mathlib.Core.List.{[]};
+ghost use Prim.Native.Nat.{_+_, _*_, _^_, _<_, _≤_};
+ghost use lib.IntN.{pos, _-ℤ_};
 ghost use Rattle.model.specs.Calls as call;
-ghost use Rattle.model.specs.Outcome.{outcomeOf, outcome};
+ghost use Rattle.model.specs.Outcome.{outcomeOf, outcome, movement};
+ghost use Rattle.model.specs.Directives.{clockAt, movedBy};
+ghost use Rattle.model.specs.Words.{read};
+ghost use Rattle.model.specs.Sound.{sound};
 ghost use Rattle.answers.specs.Answers.{statusOf, answerOf, readingStatus, readingAnswer};
 ghost use Rattle.answers.specs.Openings.{Opens};
 ghost use Rattle.clock.specs.Lent.{onList, Lent};
 use answers::Answer;
 use answers::Reading;
+use answers::Setting;
 use calendar::Date;
 use calendar::Instant;
 use calendar::WallTime;
@@ -56,20 +63,67 @@ pub fn tick(table: &mut [u32], fired: &mut [u32]) -> Answer
     Answer::Done(dated.count)
 }
 
-// The clock is set, and dated timers that are then due fire, server timers into the queue. Interval timers do not change. Answers how many fired.
-pub fn set_clock(table: &mut [u32], time: WallTime, fired: &mut [u32]) -> Answer
-    ensures { λ r. ⌜ outcomeOf (statusOf r) (answerOf r) (now (table .exit)) (now (fired .exit)) ≡ outcome (now (table .entry)) (call.setClock time (now (fired .entry))) ⌝ }
+// A second, so many ticks into it, counted in ticks.
+fn in_ticks(rate: u32, second: u32, ticks: u32) -> u64
+    requires { ⌜ rate ≤ 1000 ⌝ }
+    ensures { λ r. ⌜ (r ≡ second * rate + ticks) × (r < 2 ^ 63) ⌝ }
+{
+    (second as u64) * (rate as u64) + (ticks as u64)
+}
+
+// New minus old, below zero when set back.
+fn difference(new: u64, old: u64) -> i64
+    requires { ⌜ (new < 2 ^ 63) × (old < 2 ^ 63) ⌝ }
+    ensures { λ r. ⌜ r ≡ pos new -ℤ pos old ⌝ }
+{
+    (new as i64) - (old as i64)
+}
+
+// How far the clock moves when it is set to a second, so many ticks into it; 0 where it is not set yet.
+fn move_to(table: &[u32], second: u32, ticks: u32) -> i64
+    requires { ⌜ sound (now table) ≡ true ⌝ }
+    ensures { λ r. ⌜ r ≡ movedBy (read (now (table .entry)) .clock) (clockAt (read (now (table .entry)) .clock) second ticks) ⌝ }
+{
+    if table[CLOCK_SET] != 1 {
+        return 0;
+    }
+    let rate = table[TICKS_PER_SECOND];
+    let old = in_ticks(rate, table[SECONDS], table[TICKS]);
+    let new = in_ticks(rate, second, ticks);
+    difference(new, old)
+}
+
+// The clock is set, and dated timers that are then due fire, server timers into the queue. Interval timers do not change. Answers how many fired,
+// and how far the clock moved.
+pub fn set_clock(table: &mut [u32], time: WallTime, fired: &mut [u32]) -> Setting
+    ensures { λ r. ⌜ (outcomeOf (statusOf (r .answer)) (answerOf (r .answer)) (now (table .exit)) (now (fired .exit)) ≡ outcome (now (table .entry)) (call.setClock time (now (fired .entry)))) × (r .moved ≡ movement (now (table .entry)) time (now (fired .entry))) ⌝ }
 {
     let opened = open_list(table, fired);
     let Answer::Done(end) = opened else {
-        return opened;
+        return Setting {
+            answer: opened,
+            moved: 0,
+        };
     };
     let Instant::Second(second) = calendar::to_seconds(time) else {
-        return Answer::Refused(Status::InvalidClock);
+        return Setting {
+            answer: Answer::Refused(Status::InvalidClock),
+            moved: 0,
+        };
     };
-    firing::set_clock(table, second);
+    if table[TICKS_PER_SECOND] <= time.ticks {
+        return Setting {
+            answer: Answer::Refused(Status::InvalidClock),
+            moved: 0,
+        };
+    }
+    let moved = move_to(table, second, time.ticks);
+    firing::set_clock(table, second, time.ticks);
     let dated = fire(table, fired, Chain::ByDate, second, 0, end);
-    Answer::Done(dated.count)
+    Setting {
+        answer: Answer::Done(dated.count),
+        moved: moved,
+    }
 }
 
 // The date that the clock stands at, with the ticks into its second.

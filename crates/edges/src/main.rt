@@ -2,9 +2,12 @@
 // first and then its arguments. Prints the label, then status and answer. A line without a bar says which sentences the cases below it are of, and is
 // copied. `stdout` is written by hand from the documents. A new case is a line of both files; a new call is a number and an arm.
 ghost use Prim.Native.Nat.{_≤_};
+ghost use mathlib.Core.Path.{_≡_};
 ghost use lib.ListN.{length};
+ghost use lib.IntN.{natAbs};
 use answers::Answer;
 use answers::Reading;
+use answers::Setting;
 use calendar::WallTime;
 use clock::*;
 use libc::STDIN_FILENO;
@@ -92,6 +95,25 @@ fn print(number: u32) {
     io::print_decimal(STDOUT_FILENO, number as u64);
 }
 
+// How far a number is from zero.
+fn magnitude(number: i64) -> u64
+    ensures { λ r. ⌜ r ≡ natAbs number ⌝ }
+{
+    if number < 0 {
+        return (0 - (number + 1)) as u64 + 1;
+    }
+    number as u64
+}
+
+// Prints a number that may be below zero.
+fn print_signed(number: i64) {
+    io::write_all(STDOUT_FILENO, b" ");
+    if number < 0 {
+        io::write_all(STDOUT_FILENO, b"-");
+    }
+    io::print_decimal(STDOUT_FILENO, magnitude(number));
+}
+
 // Prints status and answer.
 fn show(answer: Answer) {
     match answer {
@@ -131,6 +153,14 @@ fn wall_time(date: u32, time: u32, ticks: u32) -> WallTime {
     }
 }
 
+// Prints what set clock answers: status, count and how far the clock moved.
+fn show_setting(setting: Setting) {
+    let answer = setting.answer;
+    let moved = setting.moved;
+    show(answer);
+    print_signed(moved);
+}
+
 // Prints what get clock answers: seven zeros where it is refused.
 fn show_reading(reading: Reading) {
     match reading {
@@ -160,7 +190,6 @@ fn short_call(number: u32, a: u32, b: u32, table: &mut [u32; TABLE]) -> Answer {
         SHORT_LAY_OUT => lay_out(&mut cut, a, b),
         SHORT_CREATE => create(&mut cut, a),
         SHORT_TICK => tick(table, &mut list),
-        SHORT_SET_CLOCK => set_clock(table, wall_time(a, b, MOST), &mut list),
         _ => Answer::Done(MOST),
     }
 }
@@ -174,7 +203,7 @@ fn serve_from(table: &mut [u32; TABLE], list: &mut [u32], word: u32) -> Answer {
     serve(table, &mut list[from..])
 }
 
-// Makes a call. The ticks of a wall time are not zero, and do not count.
+// Makes a call. The ticks of a fire when's wall time are not zero, and do not count.
 fn call(
     number: u32,
     a: u32,
@@ -197,7 +226,6 @@ fn call(
         RESET => reset(table, a),
         TICKS_LEFT => ticks_left(table, a),
         TICK => tick(table, list),
-        SET_CLOCK => set_clock(table, wall_time(a, b, MOST), list),
         INITIATE_SERVER => initiate_server(table),
         SERVER_FIRE_AFTER => server_fire_after(table, a, b, c, d),
         SERVER_FIRE_WHEN => server_fire_when(table, a, wall_time(b, c, MOST), d, e),
@@ -210,11 +238,19 @@ fn call(
     }
 }
 
+// Sets the clock, lent a word too few for three slots.
+fn set_short(table: &mut [u32; TABLE], time: WallTime) {
+    let mut list = [0u32; LIST - 1];
+    show_setting(set_clock(table, time, &mut list));
+}
+
 // Takes a step and prints what comes of it.
 fn play(step: Step, table: &mut [u32; TABLE], list: &mut [u32; LIST]) {
     let number = step.number;
     match number {
         NONE => {}
+        SET_CLOCK => show_setting(set_clock(table, wall_time(step.a, step.b, step.c), list)),
+        SHORT_SET_CLOCK => set_short(table, wall_time(step.a, step.b, step.c)),
         GET_CLOCK => show_reading(get_clock(table)),
         PRINT_LIST => print_list(list, step.a),
         _ => show(call(number, step.a, step.b, step.c, step.d, step.e, table, list)),

@@ -29,7 +29,7 @@ module _ (t : List ℕ) (s : State) (is : writtenOver s t ≡ t) (second into : 
       ≡ allSlots (withClock s (clockAt (s .clock) second into)) 1 (s .slots) (drop (10 + 8 * length (s .slots)) t)
   same = sym (same-slots s (s .slots) (clockAt (s .clock) second into) (s .server) 1 (s .slots) (drop (10 + 8 * length (s .slots)) t))
 
-  -- the clock is set to a second
+  -- the clock is set to a second, so many ticks into it
   clock-placed : set (set (set t 2 1) 3 second) 4 into ≡ writtenOver (withClock s (clockAt (s .clock) second into)) t
   clock-placed = ap (λ (u : List ℕ). set (set (set u 2 1) 3 second) 4 into) (sym is) ∙ ap (clockStored s 1 second into) same
 
@@ -42,8 +42,9 @@ module _ (t : List ℕ) (s : State) (is : writtenOver s t ≡ t) (second into : 
 -- ---- what the code leaves
 
 module _ (t : List ℕ) (h : Holds t (read t)) where
-  pub clock-set : (second : ℕ) → set (set (set t 2 1) 3 second) 4 0 ≡ writtenOver (withClock (read t) (clockAt (read t .clock) second 0)) t
-  clock-set second = clock-placed t (read t) (h .is) second 0
+  pub clock-set : (second into : ℕ)
+      → set (set (set t 2 1) 3 second) 4 into ≡ writtenOver (withClock (read t) (clockAt (read t .clock) second into)) t
+  clock-set second into = clock-placed t (read t) (h .is) second into
 
   stands : clockStep (read t .clock) ≡ read t .clock → t ≡ writtenOver (withClock (read t) (clockStep (read t .clock))) t
   stands e = sym (ap (λ (c : Clock). writtenOver (withClock (read t) c) t) e ∙ h .is)

@@ -51,9 +51,9 @@ tickedTo limit second s =
     let later = withClock (fire ByTicks limit near) (clockStep (s .clock)) in
     firing (fire ByDate second later) (withoutServer (s .slots) (due ByTicks limit near ++ due ByDate second later))
 
-abbrev pub movedTo : Chain → ℕ → State → ℕ → Effect
-movedTo k limit s second =
-    let later = withClock s (clockAt (s .clock) second 0) in firing (fire k limit later) (withoutServer (s .slots) (due k limit later))
+abbrev pub movedTo : Chain → ℕ → State → ℕ → ℕ → Effect
+movedTo k limit s second into =
+    let later = withClock s (clockAt (s .clock) second into) in firing (fire k limit later) (withoutServer (s .slots) (due k limit later))
 
 -- the words are those that a call leaves, with its answer
 pub record Leaves (t list : List ℕ) (e : Effect) (m : ℕ) (u list′ : List ℕ) : Type 0 where
@@ -211,22 +211,22 @@ module _ (t list : List ℕ) (ok : sound t ≡ true) (long : 3 * slotCount t ≤
 
   -- ---- a set clock, whatever it fires then
 
-  module _ (second : ℕ) {u₁ : List ℕ} (e₁ : u₁ ≡ writtenOver (withClock (read t) (clockAt (read t .clock) second 0)) t) where
-    after-set : Next t (withClock (read t) (clockAt (read t .clock) second 0)) u₁
+  module _ (second into : ℕ) {u₁ : List ℕ} (e₁ : u₁ ≡ writtenOver (withClock (read t) (clockAt (read t .clock) second into)) t) where
+    after-set : Next t (withClock (read t) (clockAt (read t .clock) second into)) u₁
     after-set =
-        next-then start (λ z. withClock z (clockAt (z .clock) second 0))
-        (chained-with-clock (read t) (clockAt (read t .clock) second 0) chained) refl e₁
+        next-then start (λ z. withClock z (clockAt (z .clock) second into))
+        (chained-with-clock (read t) (clockAt (read t .clock) second into) chained) refl e₁
 
-    few-one : (k : Chain) → length (chainOf k (withClock (read t) (clockAt (read t .clock) second 0))) ≤ length (read t .slots)
-    few-one = fits (withClock (read t) (clockAt (read t .clock) second 0)) (after-set .holds .chained)
+    few-one : (k : Chain) → length (chainOf k (withClock (read t) (clockAt (read t .clock) second into))) ≤ length (read t .slots)
+    few-one = fits (withClock (read t) (clockAt (read t .clock) second into)) (after-set .holds .chained)
 
     pub moved-room : (k : Chain) → sameChain Queue k ≡ false → (limit : ℕ) → (k ≡ ByTicks → limit ≡ 0) → Room k u₁ list limit 0 end
     moved-room k apart limit none = room-for after-set k apart limit 0 none ends list refl (omega (arith, few-one k))
 
     pub moved-is : {k : Chain} {limit m last : ℕ} {u₂ list₂ : List ℕ} → Fires k u₁ list limit 0 m last u₂ list₂
-        → Leaves t list (movedTo k limit (read t) second) m u₂ list₂
+        → Leaves t list (movedTo k limit (read t) second into) m u₂ list₂
     moved-is {k} {limit} {m} {last} {u₂} {list₂} f =
-        let later = withClock (read t) (clockAt (read t .clock) second 0) in
+        let later = withClock (read t) (clockAt (read t .clock) second into) in
         let number : m ≡ length (dueListed k limit later) =
         omega (arith, f .count, ap (λ (z : State). length (dueListed k limit z)) (next-read after-set)) in
         record {

@@ -181,12 +181,12 @@ pub fn step_clock(t: &mut [u32])
     }
 }
 
-// The clock is set to a second.
-pub fn set_clock(t: &mut [u32], second: u32)
+// The clock is set to a second, so many ticks into it.
+pub fn set_clock(t: &mut [u32], second: u32, ticks: u32)
     requires { ⌜ Holds (now t) (read (now t)) ⌝ }
-    ensures { λ _. ⌜ now (t .exit) ≡ writtenOver (withClock (read (now (t .entry))) (clockAt (read (now (t .entry)) .clock) second 0)) (now (t .entry)) ⌝ }
+    ensures { λ _. ⌜ now (t .exit) ≡ writtenOver (withClock (read (now (t .entry))) (clockAt (read (now (t .entry)) .clock) second ticks)) (now (t .entry)) ⌝ }
 {
     t[CLOCK_SET] = 1;
     t[SECONDS] = second;
-    t[TICKS] = 0;
+    t[TICKS] = ticks;
 }

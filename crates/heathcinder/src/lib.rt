@@ -1,10 +1,10 @@
 // The timer manager for C: the prototypes of include/heathcinder.h, in its order. A slice is a pointer and a length there, and seven words are
-// a `struct hc_wall_time`. Each call gives its status as the result; an answer goes through the last pointer, and is 0 on every refusal. The
-// contracts are the calls' own equations with the model's `outcome`.
+// a `struct hc_wall_time`. Each call gives its status as the result; an answer goes through the last pointer, set clock's two through the last
+// two, and is 0 on every refusal. The contracts are the calls' own equations with the model's `outcome` and `movement`.
 ghost use mathlib.Core.Path.{_≡_};
 ghost use mathlib.Core.List.{[], _∷_};
 ghost use Rattle.model.specs.Calls as call;
-ghost use Rattle.model.specs.Outcome.{outcomeOf, outcome};
+ghost use Rattle.model.specs.Outcome.{outcomeOf, outcome, movement};
 ghost use Rattle.heathcinder.specs.Exports.{wallTime};
 use answers::Reading;
 use answers::number_in;
@@ -154,10 +154,14 @@ pub extern "C" fn hc_set_clock(
     time: &[u32; 7],
     fired: &mut [u32],
     count: &mut u32,
+    moved: &mut i64,
 ) -> u32
-    ensures { λ r. ⌜ outcomeOf r (now (count .exit) ∷ []) (now (table .exit)) (now (fired .exit)) ≡ outcome (now (table .entry)) (call.setClock (wallTime (now (time .entry))) (now (fired .entry))) ⌝ }
+    ensures { λ r. ⌜ (outcomeOf r (now (count .exit) ∷ []) (now (table .exit)) (now (fired .exit)) ≡ outcome (now (table .entry)) (call.setClock (wallTime (now (time .entry))) (now (fired .entry)))) × (now (moved .exit) ≡ movement (now (table .entry)) (wallTime (now (time .entry))) (now (fired .entry))) ⌝ }
 {
-    let answer = clock::set_clock(table, wall_time(time), fired);
+    let setting = clock::set_clock(table, wall_time(time), fired);
+    let answer = setting.answer;
+    let by = setting.moved;
+    *moved = by;
     *count = number_in(answer);
     status_of(answer)
 }

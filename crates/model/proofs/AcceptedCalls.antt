@@ -120,7 +120,7 @@ Accepted w s (fireEvery id n r u) = StartsByTicks s id n r
 Accepted w s (reset id) = Named s id × (lastByTicks (slotAt (s .slots) (indexOf id) .kind) ≡ true)
 Accepted w s (ticksLeft id) = Named s id
 Accepted w s (tick list) = LongEnough s list
-Accepted w s (setClock d list) = LongEnough s list × (valid d ≡ true)
+Accepted w s (setClock d list) = LongEnough s list × (valid d ≡ true) × (d .ticks < s .clock .perSecond)
 Accepted w s getClock = s .clock .isSet ≡ true
 Accepted w s initiateServer = s .server ≡ false
 Accepted w s (serverFireAfter id n r u) = (s .server ≡ true) × StartsByTicks s id n r
@@ -178,7 +178,11 @@ module _ (words : List ℕ) (s : State) where
       (known s id (p 1), not-false (lastByTicks (slotAt (s .slots) (indexOf id) .kind)) (p 2))
   accepted-facts (ticksLeft id) e = known s id (not-refused (ticksLeft id) e 1)
   accepted-facts (tick list) e = long-enough list (not-refused (tick list) e 1)
-  accepted-facts (setClock w list) e = let p = not-refused (setClock w list) e in (long-enough list (p 1), not-false (valid w) (p 2))
+  accepted-facts (setClock w list) e =
+      let p = not-refused (setClock w list) e in
+      let T = s .clock .perSecond in
+      let date = both (valid w) (ltb (w .ticks) T) (not-false (valid w && ltb (w .ticks) T) (p 2)) in
+      (long-enough list (p 1), date .0, ltb-true (w .ticks) T (date .1))
   accepted-facts getClock e = not-false (s .clock .isSet) (not-refused getClock e 1)
   accepted-facts initiateServer e = not-refused initiateServer e 1
   accepted-facts (serverFireAfter id n r u) e =
@@ -223,7 +227,7 @@ module _ (words : List ℕ) (s : State) where
   no-rule (reset id) ok h = (ap not ok, (is-known id (h .0), (ap not (h .1), tt)))
   no-rule (ticksLeft id) ok h = (ap not ok, (is-known id h, tt))
   no-rule (tick list) ok h = (ap not ok, (le-ltb (length list) (3 * length (s .slots)) h, tt))
-  no-rule (setClock w list) ok h = (ap not ok, (le-ltb (length list) (3 * length (s .slots)) (h .0), (ap not (h .1), tt)))
+  no-rule (setClock w list) ok h = (ap not ok, (le-ltb (length list) (3 * length (s .slots)) (h .0), (ap not (and-both (valid w) (ltb (w .ticks) (s .clock .perSecond)) (h .1) (lt-ltb (w .ticks) (s .clock .perSecond) (h .2))), tt)))
   no-rule getClock ok h = (ap not ok, (ap not h, tt))
   no-rule initiateServer ok h = (ap not ok, (h, tt))
   no-rule (serverFireAfter id n r u) ok h =

@@ -8,14 +8,15 @@ use mathlib.Core.List.{List, [], _∷_, _++_, map, append-nil, nil≢cons, cons�
 use lib.ListN.{length, take, length-map, length-append}
 use lib.Dec.{eqb}
 use borrow.Author.Tests.{eqb-true}
+use Rattle.calendar.specs.declared.WallTime.{WallTime}
 use Rattle.calendar.specs.Calendar.{secondsOf}
 use Rattle.calendar.proofs.Theorems.{seconds-in-range}
 use Rattle.model.specs.Status.{firstOf}
 use Rattle.model.specs.Calls.{Call, layOut, create, ident, cancel, delete, fireAfter, fireWhen, fireEvery, reset, ticksLeft, tick, setClock, getClock, initiateServer, serverFireAfter, serverFireWhen, serve}
 use Rattle.model.specs.Kinds.{Chain, ByTicks, ByDate, Queue, After, When, Every, ServerAfter, ServerWhen, kindAt, chainFor, forServer, lastMode}
 use Rattle.model.specs.State.{Link, State, free, slotAt, indexOf, Fired, listed}
-use Rattle.model.specs.Directives.{refusals, lowestFree, neverStarted, idled, effect}
-use Rattle.model.specs.History.{Start, startOf, Event, laidOutFor, changes, deletes, oneTick, clockSetTo, initiates, servesFront, nothing, lastStart, eventOf, movesClock, Placed, entryOf, entry, Waiting, servesIn, queuedAs}
+use Rattle.model.specs.Directives.{refusals, lowestFree, neverStarted, idled, effect, clockAt, movedBy}
+use Rattle.model.specs.History.{Start, startOf, Event, laidOutFor, changes, deletes, oneTick, clockSetTo, initiates, servesFront, nothing, lastStart, eventOf, clockAfter, movesClock, Placed, entryOf, entry, Waiting, servesIn, queuedAs}
 use Rattle.model.specs.Demand.{shown}
 use Rattle.model.proofs.ListLaws.{clash}
 use Rattle.model.proofs.WellFormed.{WellFormed}
@@ -25,7 +26,8 @@ use Rattle.model.proofs.Searches.{found}
 use Rattle.model.proofs.AcceptedCalls.{accepted-facts}
 use Rattle.model.proofs.HistoryLaws.{firingIn, none-due}
 use Rattle.model.proofs.Simulation.{Remembers, Agrees, no-start, on-nothing, on-initiate, on-stored, on-lay-out, on-serve, on-stop, on-delete, on-start}
-use Rattle.model.proofs.ClockSimulation.{on-set-clock, set-clock-lists, on-tick, tick-lists}
+use Rattle.model.proofs.ClockLaws.{apart}
+use Rattle.model.proofs.ClockSimulation.{on-set-clock, set-clock-lists, set-clock-moves, on-tick, tick-lists}
 
 module _ (s : State) (h : List Event) (v : Agrees s h) (f : WellFormed s) (words : List ℕ) where
   -- what a timer that a reset starts again remembers is its last start
@@ -85,7 +87,9 @@ module _ (s : State) (h : List Event) (v : Agrees s h) (f : WellFormed s) (words
       (on-start s h v id i (p .0 .is) (p .0 .low) (p .0 .high) (lastMode (x .kind)) (x .interval) (x .routine) (x .userData) (rw (last .0) (last .1)))
   agrees-step (ticksLeft id) e = on-nothing s h v
   agrees-step (tick list) e = on-tick s h v f
-  agrees-step (setClock w list) e = on-set-clock s h v f (secondsOf w) (seconds-in-range w (accepted-facts words s (setClock w list) e .1))
+  agrees-step (setClock w list) e =
+      let p = accepted-facts words s (setClock w list) e in
+      on-set-clock s h v f (secondsOf w) (seconds-in-range w (p .1)) (w .ticks) (p .2)
   agrees-step getClock e = on-nothing s h v
   agrees-step initiateServer e = on-initiate s h v
   agrees-step (serverFireAfter id n r u) e =
@@ -136,8 +140,9 @@ module _ (s : State) (h : List Event) (v : Agrees s h) (f : WellFormed s) (words
   lists-due (ticksLeft id) e = lists-none nothing refl refl
   lists-due (tick list) e = tick-lists s h v f ∙ sym (append-nil (map entry (firingIn ByTicks h oneTick ++ firingIn ByDate h oneTick)))
   lists-due (setClock w list) e =
-      let moved = clockSetTo (secondsOf w) in
-      set-clock-lists s h v f (secondsOf w) (seconds-in-range w (accepted-facts words s (setClock w list) e .1))
+      let p = accepted-facts words s (setClock w list) e in
+      let moved = clockSetTo (secondsOf w) (w .ticks) in
+      set-clock-lists s h v f (secondsOf w) (seconds-in-range w (p .1)) (w .ticks) (p .2)
       ∙ sym (append-nil (map entry (firingIn ByTicks h moved ++ firingIn ByDate h moved)))
   lists-due getClock e = lists-none nothing refl refl
   lists-due initiateServer e = lists-none initiates refl refl
@@ -161,7 +166,7 @@ module _ (s : State) (h : List Event) (v : Agrees s h) (f : WellFormed s) (words
       none-handed (changes i s) z = refl
       none-handed (deletes i) z = refl
       none-handed oneTick z = refl
-      none-handed (clockSetTo d) z = refl
+      none-handed (clockSetTo d n) z = refl
       none-handed initiates z = refl
       none-handed servesFront z = clash (sym z)
       none-handed nothing z = refl
@@ -177,7 +182,7 @@ module _ (s : State) (h : List Event) (v : Agrees s h) (f : WellFormed s) (words
       still (changes i s) z = refl
       still (deletes i) z = refl
       still oneTick z = absurd (omega arith)
-      still (clockSetTo d) z = absurd (omega arith)
+      still (clockSetTo d n) z = absurd (omega arith)
       still initiates z = refl
       still servesFront z = refl
       still nothing z = refl
@@ -193,6 +198,12 @@ module _ (s : State) (h : List Event) (v : Agrees s h) (f : WellFormed s) (words
         length-append (map entry all-firing) (map entryOf (take (servesIn (eventOf h c)) queue)),
         length-map all-firing entry,
       )
+
+  -- a set clock answers how far the clock moved
+  pub moves-by : (w : WallTime) (list : List ℕ) → firstOf (refusals words s (setClock w list)) ≡ 0
+      → movedBy (s .clock) (clockAt (s .clock) (secondsOf w) (w .ticks)) ≡ apart (clockAfter 0 h) (clockAfter 0 (eventOf h (setClock w list) ∷ h))
+  moves-by w list e =
+      let p = accepted-facts words s (setClock w list) e in set-clock-moves s h v f (secondsOf w) (seconds-in-range w (p .1)) (w .ticks) (p .2)
 
   pub none-fires : (e : Event) → movesClock e ≡ false → firingIn ByTicks h e ++ firingIn ByDate h e ≡ []
   none-fires e still = none-fire h e still

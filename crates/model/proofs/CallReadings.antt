@@ -226,25 +226,26 @@ leavesClock (laidOutFor t) = false
 leavesClock (changes i s) = true
 leavesClock (deletes i) = true
 leavesClock oneTick = true
-leavesClock (clockSetTo d) = false
+leavesClock (clockSetTo d n) = false
 leavesClock initiates = true
 leavesClock servesFront = true
 leavesClock nothing = true
 
--- It stands, counted in ticks, at the seconds given in the latest set clock times T plus the accepted ticks since that one, up to its end.
-pub clock-runs : (d : ℕ) (Q P : List Event) → All (λ e. leavesClock e ≡ true) Q
-    → clockAfter 0 (Q ++ (clockSetTo d ∷ P)) ≡ some (min (d * perSecond P + ticks Q) (suc lastSecond * perSecond P - 1))
-clock-runs d Q P h = from 0 Q h ∙ ap {B = Option ℕ} (λ (k : ℕ). some (min k (suc lastSecond * perSecond P - 1))) (omega arith)
+-- It stands, counted in ticks, at the seconds given in the latest set clock times T plus the ticks given there and the accepted ticks since that
+-- one, up to its end.
+pub clock-runs : (d n : ℕ) (Q P : List Event) → All (λ e. leavesClock e ≡ true) Q
+    → clockAfter 0 (Q ++ (clockSetTo d n ∷ P)) ≡ some (min (d * perSecond P + n + ticks Q) (suc lastSecond * perSecond P - 1))
+clock-runs d n Q P h = from 0 Q h ∙ ap {B = Option ℕ} (λ (k : ℕ). some (min k (suc lastSecond * perSecond P - 1))) (omega arith)
   where
     from : (k : ℕ) (Q : List Event) → All (λ e. leavesClock e ≡ true) Q
-        → clockAfter k (Q ++ (clockSetTo d ∷ P)) ≡ some (min (d * perSecond P + (ticks Q + k)) (suc lastSecond * perSecond P - 1))
+        → clockAfter k (Q ++ (clockSetTo d n ∷ P)) ≡ some (min (d * perSecond P + n + (ticks Q + k)) (suc lastSecond * perSecond P - 1))
     from k [] h = ap {B = Option ℕ} (λ (m : ℕ). some (min m (suc lastSecond * perSecond P - 1))) (omega arith)
     from k (laidOutFor t ∷ Q) h = clash (sym (h .0))
     from k (changes i s ∷ Q) h = from k Q (h .1)
     from k (deletes i ∷ Q) h = from k Q (h .1)
     from k (oneTick ∷ Q) h =
         from (suc k) Q (h .1) ∙ ap {B = Option ℕ} (λ (m : ℕ). some (min m (suc lastSecond * perSecond P - 1))) (omega arith)
-    from k (clockSetTo e ∷ Q) h = clash (sym (h .0))
+    from k (clockSetTo e m ∷ Q) h = clash (sym (h .0))
     from k (initiates ∷ Q) h = from k Q (h .1)
     from k (servesFront ∷ Q) h = from k Q (h .1)
     from k (nothing ∷ Q) h = from k Q (h .1)

@@ -6,6 +6,7 @@ use native.Mathlib.Omega.{arith}
 use mathlib.Core.Bool.{Bool, true, false, cond}
 use mathlib.Core.Option.{Option, none, some}
 use mathlib.Core.List.{List, [], _∷_}
+use lib.IntN.{ℤ, pos, _-ℤ_}
 use lib.Dec.{leb, ltb}
 use borrow.Author.Tests.{leb-true, leb-false, le-leb, lt-leb, ltb-true, ltb-false}
 use Rattle.model.specs.State.{Clock}
@@ -25,7 +26,7 @@ one-later n (laidOutFor t ∷ h) = refl
 one-later n (changes i s ∷ h) = one-later n h
 one-later n (deletes i ∷ h) = one-later n h
 one-later n (oneTick ∷ h) = one-later (suc n) h
-one-later n (clockSetTo d ∷ h) = ap {B = Option ℕ} some (omega arith)
+one-later n (clockSetTo d m ∷ h) = ap {B = Option ℕ} some (omega arith)
 one-later n (initiates ∷ h) = one-later n h
 one-later n (servesFront ∷ h) = one-later n h
 one-later n (nothing ∷ h) = one-later n h
@@ -33,6 +34,12 @@ one-later n (nothing ∷ h) = one-later n h
 -- the clock of a table, counted in ticks
 abbrev pub standing : Clock → Option ℕ
 standing c = cond (c .isSet) (some (c .second * c .perSecond + c .ticksInto)) none
+
+-- how far it moved apart two such, 0 where it was unset
+abbrev pub apart : Option ℕ → Option ℕ → ℤ
+apart none new = pos 0
+apart (some old) none = pos 0
+apart (some old) (some new) = pos new -ℤ pos old
 
 -- it is at or past a date where its second is
 pub at-or-past : (t second into d : ℕ) → into < t → leb (d * t) (second * t + into) ≡ leb d second

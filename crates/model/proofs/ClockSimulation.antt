@@ -13,7 +13,7 @@ use Rattle.model.specs.Lists.{keep, All}
 use Rattle.model.specs.Kinds.{Chain, ByTicks, ByDate, Queue, Mode, kindAt, waitsIn, forServer}
 use Rattle.model.specs.State.{Slot, Link, Clock, State, chainOf, withClock, slotAt, idBase, Fired, listed}
 use Rattle.calendar.specs.Calendar.{lastSecond}
-use Rattle.model.specs.Directives.{firedAll, due, fire, withoutServer, closer, nearer, clockAt, clockStep, ticked, clockMoved}
+use Rattle.model.specs.Directives.{firedAll, due, fire, withoutServer, closer, nearer, clockAt, clockStep, ticked, clockMoved, movedBy}
 use Rattle.model.specs.History.{Start, Event, oneTick, clockSetTo, startIn, perSecond, clockAfter, atLeast, past, movesClock, ends, Placed, placed, inChain, entry, Waiting, waiting, queuedAs}
 use Rattle.model.specs.Demand.{shown}
 use Rattle.model.proofs.ListLaws.{cases, clash, all, all-map, keep-append, keep-map, keep-on, keep-and, map-on, not-leb}
@@ -27,7 +27,7 @@ use Rattle.model.proofs.ClockSteps.{clock-unset, clock-isSet, clock-per
 use Rattle.model.proofs.HistoryLaws.{dueNow, lowered, renewed, fresh, chainFrom, remains, returns, dueOf, firingIn, queuingIn, chain-due, none-dated-back, sized-more}
 use Rattle.model.proofs.ChainLaws.{map-same, chain-moved, chain-calm}
 use Rattle.model.proofs.QueueLaws.{newly, toQueue, queue-moved, queued-shown}
-use Rattle.model.proofs.ClockLaws.{onward, one-later, standing, at-or-past, step-onward}
+use Rattle.model.proofs.ClockLaws.{onward, one-later, standing, at-or-past, step-onward, apart}
 use Rattle.model.proofs.Simulation.{shown-memo, Remembers, Stands, Agrees, kept-all, kept-none}
 
 -- how the timer of a link was last started
@@ -118,33 +118,33 @@ fired-shows k limit s l = shown-memo (s .slots) (fire k limit s .slots) (memo-fi
 
 module _ (s : State) (h : List Event) (v : Agrees s h) (f : WellFormed s) where
   -- ---- set clock
-  module _ (d : ℕ) (in-range : d ≤ lastSecond) where
-    set-per : perSecond (clockSetTo d ∷ h) ≡ s .clock .perSecond
+  module _ (d : ℕ) (in-range : d ≤ lastSecond) (n : ℕ) (within : n < s .clock .perSecond) where
+    set-per : perSecond (clockSetTo d n ∷ h) ≡ s .clock .perSecond
     set-per = v .per
 
-    set-clock : clockAfter 0 (clockSetTo d ∷ h) ≡ standing (clockAt (s .clock) d 0)
+    set-clock : clockAfter 0 (clockSetTo d n ∷ h) ≡ standing (clockAt (s .clock) d n)
     set-clock =
-        ap {B = Option ℕ} (λ (t : ℕ). some (min (d * t + 0) (suc lastSecond * t - 1))) (v .per)
-        ∙ ap {B = Option ℕ} some (omega (arith, mul-le-mul-right (s .clock .perSecond) in-range, f .per-low))
+        ap {B = Option ℕ} (λ (t : ℕ). some (min (d * t + n + 0) (suc lastSecond * t - 1))) (v .per)
+        ∙ ap {B = Option ℕ} some (omega (arith, mul-le-mul-right (s .clock .perSecond) in-range))
 
-    set-cut : All (λ w. past (w .wait) (clockSetTo d ∷ h) ≡ leb (w .wait) d) (s .dated)
-    set-cut = all (λ w. cut-clock (clockAt (s .clock) d 0) (clockSetTo d ∷ h) (w .wait) set-per set-clock (f .per-low) (λ e. clash e)) (s .dated)
+    set-cut : All (λ w. past (w .wait) (clockSetTo d n ∷ h) ≡ leb (w .wait) d) (s .dated)
+    set-cut = all (λ w. cut-clock (clockAt (s .clock) d n) (clockSetTo d n ∷ h) (w .wait) set-per set-clock within (λ e. clash e)) (s .dated)
 
     -- no interval timer is due in it
-    no-ticks : (q : Option Mode → Bool) → dueOf q ByTicks h (clockSetTo d) ≡ []
-    no-ticks q = empty (dueOf q ByTicks h (clockSetTo d)) (chain-due ByTicks h (v .sized) (clockSetTo d) q ∙ kept-none (chainFrom ByTicks h))
+    no-ticks : (q : Option Mode → Bool) → dueOf q ByTicks h (clockSetTo d n) ≡ []
+    no-ticks q = empty (dueOf q ByTicks h (clockSetTo d n)) (chain-due ByTicks h (v .sized) (clockSetTo d n) q ∙ kept-none (chainFrom ByTicks h))
       where
         empty : (l : List Placed) → map waiting l ≡ [] → l ≡ []
         empty [] z = refl
         empty (x ∷ xs) z = absurd (cons≢nil z)
 
     abbrev now : State
-    now = withClock s (clockAt (s .clock) d 0)
+    now = withClock s (clockAt (s .clock) d n)
 
-    pub on-set-clock : Agrees (clockMoved s d .state) (clockSetTo d ∷ h)
+    pub on-set-clock : Agrees (clockMoved s d n .state) (clockSetTo d n ∷ h)
     on-set-clock = record {
-      sized = sized-more h (clockSetTo d) (v .sized) tt;
-      chain = λ k. subst (Stands k (clockSetTo d ∷ h)) (sym (fired-shows ByDate d now (chainOf k (fire ByDate d now)))) (each k);
+      sized = sized-more h (clockSetTo d n) (v .sized) tt;
+      chain = λ k. subst (Stands k (clockSetTo d n ∷ h)) (sym (fired-shows ByDate d now (chainOf k (fire ByDate d now)))) (each k);
       memory = λ i. subst (Remembers h i) (sym (memo-fire ByDate d now i)) (v .memory i);
       per = set-per ∙ sym (ap (λ (c : Clock). c .perSecond) (fire-clock ByDate d now));
       clock = set-clock ∙ sym (ap standing (fire-clock ByDate d now));
@@ -152,18 +152,18 @@ module _ (s : State) (h : List Event) (v : Agrees s h) (f : WellFormed s) where
     }
       where
         chained-now : Chained now
-        chained-now = chained-with-clock s (clockAt (s .clock) d 0) (f .chained)
+        chained-now = chained-with-clock s (clockAt (s .clock) d n) (f .chained)
 
-        each : (k : Chain) → Stands k (clockSetTo d ∷ h) (map (shown (s .slots)) (chainOf k (fire ByDate d now)))
+        each : (k : Chain) → Stands k (clockSetTo d n ∷ h) (map (shown (s .slots)) (chainOf k (fire ByDate d now)))
         each ByTicks =
             ap (map (shown (s .slots))) (fire-elsewhere ByDate d now chained-now ByTicks dated-not-again refl) ∙ v .chain ByTicks
-            ∙ sym (chain-calm ByTicks h (v .sized) (clockSetTo d) refl refl ∙ kept-all (chainFrom ByTicks h))
+            ∙ sym (chain-calm ByTicks h (v .sized) (clockSetTo d n) refl refl ∙ kept-all (chainFrom ByTicks h))
         each ByDate =
             ap (map (shown (s .slots))) (fire-own ByDate d now chained-now (λ n _. again-not-dated n))
-            ∙ dated-left s h v (clockSetTo d) (λ j. refl) d refl refl set-cut
+            ∙ dated-left s h v (clockSetTo d n) (λ j. refl) d refl refl set-cut
         each Queue =
             let q = v .chain Queue in
-            let e = clockSetTo d in
+            let e = clockSetTo d n in
             let B = backIn Queue (firedAll (due ByDate d now) (s .slots)) (due ByDate d now) in (
               q .0 ++ newly h e,
               queue-moved h e (q .0) refl (λ j. refl) (q .1),
@@ -175,11 +175,20 @@ module _ (s : State) (h : List Event) (v : Agrees s h) (f : WellFormed s) where
                   ∙ sym (map-append queuedAs (q .0) (newly h e)),
             )
 
-    pub set-clock-lists : map (listed (s .slots)) (clockMoved s d .fired)
-        ≡ map entry (firingIn ByTicks h (clockSetTo d) ++ firingIn ByDate h (clockSetTo d))
+    pub set-clock-lists : map (listed (s .slots)) (clockMoved s d n .fired)
+        ≡ map entry (firingIn ByTicks h (clockSetTo d n) ++ firingIn ByDate h (clockSetTo d n))
     set-clock-lists =
-        dated-lists s h v (clockSetTo d) (λ j. refl) d refl refl set-cut
-        ∙ ap (λ (l : List Placed). map entry (l ++ firingIn ByDate h (clockSetTo d))) (sym (no-ticks (λ o. not (forServer o))))
+        dated-lists s h v (clockSetTo d n) (λ j. refl) d refl refl set-cut
+        ∙ ap (λ (l : List Placed). map entry (l ++ firingIn ByDate h (clockSetTo d n))) (sym (no-ticks (λ o. not (forServer o))))
+
+    -- new minus old, 0 where the clock was unset
+    pub set-clock-moves : movedBy (s .clock) (clockAt (s .clock) d n) ≡ apart (clockAfter 0 h) (clockAfter 0 (clockSetTo d n ∷ h))
+    set-clock-moves = is (s .clock .isSet) refl ∙ ap₂ apart (sym (v .clock)) (sym set-clock)
+      where
+        is : (b : Bool) → s .clock .isSet ≡ b
+            → movedBy (s .clock) (clockAt (s .clock) d n) ≡ apart (standing (s .clock)) (standing (clockAt (s .clock) d n))
+        is true e = rw e
+        is false e = rw e
 
   -- ---- tick
   module _ where

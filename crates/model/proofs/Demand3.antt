@@ -1,23 +1,25 @@
 -- Demand 3, for every slice, every accepted lay out on it, and every list of calls. By induction on the list: the table stays sound, and
 -- the state that it holds agrees with the events of the accepted calls. Assumes nothing.
 use mathlib.Core.Path.{_≡_, refl, sym, ap, ap₂, _∙_, subst}
-use Prim.Native.Nat.{ℕ, suc, _+_}
+use Prim.Native.Nat.{ℕ, suc, _+_, _*_}
 use native.Mathlib.Omega.{arith}
-use mathlib.Core.Bool.{Bool, true, false, _||_}
-use mathlib.Core.Option.{some}
+use mathlib.Core.Bool.{Bool, true, false, cond, _&&_, _||_}
+use mathlib.Core.Option.{Option, some}
 use mathlib.Core.List.{List, [], _∷_, _++_, map, reverse}
 use lib.ListN.{length, take}
-use lib.Dec.{eqb}
+use lib.Dec.{ltb, eqb}
 use borrow.Author.Tests.{eqb-true, eqb-false, eq-eqb}
+use Rattle.calendar.specs.declared.WallTime.{WallTime}
+use Rattle.calendar.specs.Calendar.{valid}
 use Rattle.model.specs.Lists.{keep, any, InOrder}
-use Rattle.model.specs.Calls.{Call, layOut, reset, ticksLeft, serve, lentTo}
+use Rattle.model.specs.Calls.{Call, layOut, reset, ticksLeft, setClock, serve, lentTo}
 use Rattle.model.specs.Kinds.{Chain, ByTicks, ByDate, Queue, chainFor}
 use Rattle.model.specs.State.{State, waitAt, indexOf, names}
 use Rattle.model.specs.Directives.{laidOut, effect}
-use Rattle.model.specs.Words.{first, along, links, read, slotCount, previousOf}
+use Rattle.model.specs.Words.{first, along, links, read, slotCount, ticksPerSecond, previousOf}
 use Rattle.model.specs.Sound.{sound}
-use Rattle.model.specs.Outcome.{Outcome, statusOn, outcome}
-use Rattle.model.specs.History.{Start, Event, laidOutFor, changes, lastStart, eventOf, eventsOn, movesClock, Placed, starts, ends, fires, inChain, ticksLeftOrDate, waiting, entryOf, entry, servesIn, IsQueue, serves, aheadAfter, takenOff}
+use Rattle.model.specs.Outcome.{Outcome, statusOn, outcome, movement}
+use Rattle.model.specs.History.{Start, Event, laidOutFor, changes, lastStart, eventOf, eventsOn, clockAfter, movesClock, Placed, starts, ends, fires, inChain, ticksLeftOrDate, waiting, entryOf, entry, servesIn, IsQueue, serves, aheadAfter, takenOff}
 use Rattle.model.specs.Demand.{after, acceptedIn, shown, Shows, Standing, Begins, Lists, Answers, HandsOut, eventsAfter, Demand3}
 use Rattle.model.proofs.ListLaws.{cases, or-left, or-right}
 use Rattle.model.proofs.Order.{order, order-in-order}
@@ -28,8 +30,10 @@ use Rattle.model.proofs.KeptWellFormed.{bound}
 use Rattle.model.proofs.HistoryLaws.{waitingIn, chainFrom, firingIn, shown-order}
 use Rattle.model.proofs.QueueLaws.{one-queue, place-after}
 use Rattle.model.proofs.Simulation.{Agrees, agrees-laid}
-use Rattle.model.proofs.Agreement.{reset-last, agrees-step, lists-due, many-fire, many-served, few-fire, none-fires, counts}
+use Rattle.model.proofs.Agreement.{reset-last, agrees-step, lists-due, many-fire, many-served, few-fire, moves-by, none-fires, counts}
 use Rattle.model.proofs.OutcomeLaws.{status-is, outcome-accepted, outcome-refused, outcome-status}
+use Rattle.model.proofs.ClockLaws.{apart}
+use Rattle.model.proofs.ClockReadings.{set-clock-status, refused-moves-none, get-clock-reads}
 use Rattle.model.proofs.CallTables.{laid-table, laid-sound, laid-read, effect-sound, table-left, state-left}
 use Rattle.model.proofs.Lasting.{none-laid, cancels-on, cancelled-on, lasts-on, anew-on}
 use Rattle.model.proofs.ListWords.{list-begins, table-size, words-beyond}
@@ -117,6 +121,20 @@ module _ (t : List ℕ) (h : List Event) (g : SoundAndAgreeing t h) (c : Call) w
       let last = reset-last (read t) h (g .agrees) (sound-well-formed t (g .is-sound)) t id (sym (status-is t (reset id)) ∙ z) in
       (_, ap (changes id) (last .2), refl, last .0, last .2)) e
 
+  moves-now : statusOn t c ≡ 0 → (w : WallTime) (list : List ℕ) → c ≡ setClock w list
+      → movement t w list ≡ apart (clockAfter 0 h) (clockAfter 0 (eventOf h c ∷ h))
+  moves-now e w list is =
+      subst (λ (d : Call). statusOn t d ≡ 0 → movement t w list ≡ apart (clockAfter 0 h) (clockAfter 0 (eventOf h d ∷ h))) (sym is)
+      (λ z.
+      rw (eq-eqb (statusOn t (setClock w list)) 0 z)
+      (moves-by (read t) h (g .agrees) (sound-well-formed t (g .is-sound)) t w list (sym (status-is t (setClock w list)) ∙ z))) e
+
+  sets-now : (w : WallTime) (list : List ℕ) → c ≡ setClock w list
+      → statusOn t c ≡ cond (ltb (length list) (3 * slotCount t)) 101 (cond (valid w && ltb (w .ticks) (ticksPerSecond t)) 0 20)
+  sets-now w list is =
+      ap (statusOn t) is ∙ set-clock-status t w list
+      ∙ ap (λ (b : Bool). cond b (cond (ltb (length list) (3 * slotCount t)) 101 (cond (valid w && ltb (w .ticks) (ticksPerSecond t)) 0 20)) 100) (g .is-sound)
+
   left-now : statusOn t c ≡ 0 → (id : ℕ) → c ≡ ticksLeft id → outcome t c .answer ≡ waitAt (indexOf id) (links ByTicks t) ∷ []
   left-now e id is =
       subst (λ (d : Call). statusOn t d ≡ 0 → outcome t d .answer ≡ waitAt (indexOf id) (links ByTicks t) ∷ []) (sym is)
@@ -131,6 +149,12 @@ module _ (t : List ℕ) (h : List Event) (g : SoundAndAgreeing t h) (c : Call) w
     cancels = λ id is. outcome-status t c ∙ cancels-on t (g .is-sound) id c is;
     cancelled = λ id is e. cancelled-on t (g .is-sound) id c is (sym (outcome-status t c) ∙ e);
     restarts = λ id is e. restarts-now (sym (outcome-status t c) ∙ e) id is;
+    sets = λ w list is. outcome-status t c ∙ sets-now w list is;
+    moves = λ w list is e old new was now. moves-now (sym (outcome-status t c) ∙ e) w list is ∙ ap₂ apart was now;
+    moves-first = λ w list is e was.
+        moves-now (sym (outcome-status t c) ∙ e) w list is ∙ ap (λ (o : Option ℕ). apart o (clockAfter 0 (eventOf h c ∷ h))) was;
+    stays = λ w list is e. refused-moves-none t w list (λ z. e (outcome-status t c ∙ ap (statusOn t) is ∙ z));
+    reads = λ is e. ap (λ (d : Call). outcome t d .answer) is ∙ get-clock-reads t (ap (statusOn t) (sym is) ∙ sym (outcome-status t c) ∙ e);
     left = λ id is e. left-now (sym (outcome-status t c) ∙ e) id is;
     lasts = λ e id. lasts-on t (g .is-sound) c (sym (outcome-status t c) ∙ e) id;
     anew = λ name is e. anew-on t (g .is-sound) name c is (sym (outcome-status t c) ∙ e);

@@ -221,14 +221,15 @@ module _ (s : State) (h : WellFormed s) where
       rest ByDate e = clash e
       rest Queue e = all (λ w. tt) (fire ByTicks 0 (nearer s) .queue)
 
-  formed-clock-set : (second : ℕ) → second ≤ lastSecond → WellFormed (fire ByDate second (withClock s (clockAt (s .clock) second 0)))
-  formed-clock-set second last =
-      let clock = clockAt (s .clock) second 0 in
+  formed-clock-set : (second : ℕ) → second ≤ lastSecond → (into : ℕ) → into < s .clock .perSecond
+      → WellFormed (fire ByDate second (withClock s (clockAt (s .clock) second into)))
+  formed-clock-set second last into within =
+      let clock = clockAt (s .clock) second into in
       formed-fired (withClock s clock) (chained-with-clock s clock (h .chained)) (h .some-slot)
-      (record { per-low = h .per-low; per-high = h .per-high; into = h .per-low; second-high = last; unset = λ e. clash e })
+      (record { per-low = h .per-low; per-high = h .per-high; into = within; second-high = last; unset = λ e. clash e })
       (h .shape) rest (all-map (λ w p. (refl, p .1)) (s .dated) (h .dates))
     where
-      rest : (k : Chain) → sameChain k ByDate ≡ false → AllAhead k (clockAt (s .clock) second 0) (chainOf k (withClock s (clockAt (s .clock) second 0)))
+      rest : (k : Chain) → sameChain k ByDate ≡ false → AllAhead k (clockAt (s .clock) second into) (chainOf k (withClock s (clockAt (s .clock) second into)))
       rest ByTicks e = h .ticks
       rest ByDate e = clash e
       rest Queue e = all-ahead s h Queue
@@ -302,7 +303,8 @@ module _ (s : State) (h : WellFormed s) where
         (λ q. h .shape (indexOf id) .by-server (again-server (x .kind) (omega (arith, h .shape (indexOf id) .kinds)) q))
     kept (ticksLeft id) e = h
     kept (tick list) e = formed-ticked list
-    kept (setClock w list) e = formed-clock-set (secondsOf w) (seconds-in-range w (accepted-facts words s (setClock w list) e .1))
+    kept (setClock w list) e =
+        let p = accepted-facts words s (setClock w list) e in formed-clock-set (secondsOf w) (seconds-in-range w (p .1)) (w .ticks) (p .2)
     kept getClock e = h
     kept initiateServer e = formed-initiated
     kept (serverFireAfter id n r u) e =
@@ -338,7 +340,7 @@ module _ (s : State) where
   slots-kept (tick list) l =
       let clock = clockStep (s .clock) in
       length-fire ByDate (clock .second) (withClock (fire ByTicks 0 (nearer s)) clock) ∙ length-fire ByTicks 0 (nearer s)
-  slots-kept (setClock w list) l = length-fire ByDate (secondsOf w) (withClock s (clockAt (s .clock) (secondsOf w) 0))
+  slots-kept (setClock w list) l = length-fire ByDate (secondsOf w) (withClock s (clockAt (s .clock) (secondsOf w) (w .ticks)))
   slots-kept getClock l = refl
   slots-kept initiateServer l = refl
   slots-kept (serverFireAfter id n r u) l = length-started ServerAfter s (indexOf id) n r u

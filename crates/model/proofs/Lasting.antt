@@ -153,7 +153,7 @@ lasts-step words s (tick list) p id =
     (fire-free ByTicks 0 (nearer s)) (fire-free ByDate (clock .second) (withClock ticked clock))) id
 lasts-step words s (setClock w list) p id =
     same-names s (effect s (setClock w list) .state)
-    (fire-free ByDate (secondsOf w) (withClock s (clockAt (s .clock) (secondsOf w) 0))) id
+    (fire-free ByDate (secondsOf w) (withClock s (clockAt (s .clock) (secondsOf w) (w .ticks)))) id
 lasts-step words s getClock p id = refl
 lasts-step words s initiateServer p id = refl
 lasts-step words s (serverFireAfter d n r u) p id =

@@ -28,6 +28,7 @@ pub mod Simulation
 pub mod ClockSimulation
 pub mod Agreement
 pub mod OutcomeLaws
+pub mod ClockReadings
 pub mod CallTables
 pub mod Lasting
 pub mod ListWords
@@ -37,5 +38,6 @@ pub mod CallReadings
 pub mod QueueReadings
 pub mod Cases
 pub mod WorkedCases
+pub mod ClockCases
 pub mod ServerCases
 pub mod EveryKind

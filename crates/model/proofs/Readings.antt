@@ -265,8 +265,8 @@ goes-to-back P Q id s e new f q =
 
 -- ---- 5. A set clock changes no start's ticks left.
 
-pub clock-moves-no-tick : (d : ℕ) (g : Placed) → ticksLeftOrDate (withEvent (clockSetTo d) g) ≡ ticksLeftOrDate g
-clock-moves-no-tick d g = refl
+pub clock-moves-no-tick : (d n : ℕ) (g : Placed) → ticksLeftOrDate (withEvent (clockSetTo d n) g) ≡ ticksLeftOrDate g
+clock-moves-no-tick d n g = refl
 
 -- ---- 6. On the words: what an accepted tick writes to its list.
 
@@ -364,7 +364,7 @@ pub set-clock-keeps-ticks : (t : List ℕ) → sound t ≡ true → (w : WallTim
 set-clock-keeps-ticks t ok w list e =
     let z : statusOn t (setClock w list) ≡ 0 = sym (outcome-status t (setClock w list)) ∙ e in
     let s = effect (read t) (setClock w list) .state in
-    let clock = clockAt (read t .clock) (secondsOf w) 0 in
+    let clock = clockAt (read t .clock) (secondsOf w) (w .ticks) in
     let now = withClock (read t) clock in
     ap (λ (o : Outcome). links ByTicks (o .table)) (outcome-accepted t (setClock w list) z)
     ∙ links-is (writtenOver s t) s (effect-holds t ok (setClock w list) z) ByTicks

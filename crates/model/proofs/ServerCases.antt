@@ -276,7 +276,7 @@ abbrev z : Start
 z = startOf fourth ServerAfter 1 10 100
 
 abbrev before : List Event
-before = changes one (some x) ∷ changes third (some o) ∷ changes two (some d) ∷ initiates ∷ clockSetTo 4 ∷ laidOutFor 1 ∷ []
+before = changes one (some x) ∷ changes third (some o) ∷ changes two (some d) ∷ initiates ∷ clockSetTo 4 0 ∷ laidOutFor 1 ∷ []
 
 abbrev idsOf : List Placed → List ℕ
 idsOf l = map (λ (g : Placed). g .begun .id) l
@@ -298,7 +298,7 @@ pub serves-counted : map serves ((servesFront ∷ oneTick ∷ servesFront ∷ []
 serves-counted = refl
 
 -- "Fires" reads "is queued" for them: in the next tick o fires, d and x are queued; a set clock to second 5 queues d, one to second 4 nothing.
-pub fires-or-queued : map (λ e. idsOf (keep (fires e) (starts before)) ∷ idsOf (keep (isQueued e) (starts before)) ∷ []) (oneTick ∷ clockSetTo 5 ∷ clockSetTo 4 ∷ [])
+pub fires-or-queued : map (λ e. idsOf (keep (fires e) (starts before)) ∷ idsOf (keep (isQueued e) (starts before)) ∷ []) (oneTick ∷ clockSetTo 5 0 ∷ clockSetTo 4 0 ∷ [])
     ≡ ((third ∷ []) ∷ (two ∷ one ∷ []) ∷ []) ∷ ([] ∷ (two ∷ []) ∷ []) ∷ ([] ∷ [] ∷ []) ∷ []
 fires-or-queued = refl
 
@@ -323,7 +323,7 @@ queuing-order k e h = order-in-order ticksLeftOrDate (keep (inChain k) (keep (is
 pub queue-empty : IsQueue before []
 queue-empty =
     queue-calm _ (changes one (some x)) [] refl (queue-calm _ (changes third (some o)) [] refl (queue-calm _ (changes two (some d)) [] refl
-    (queue-calm _ initiates [] refl (queue-moved (laidOutFor 1 ∷ []) (clockSetTo 4) [] refl (λ j. refl) (queue-calm [] (laidOutFor 1) [] refl refl)))))
+    (queue-calm _ initiates [] refl (queue-moved (laidOutFor 1 ∷ []) (clockSetTo 4 0) [] refl (λ j. refl) (queue-calm [] (laidOutFor 1) [] refl refl)))))
 
 pub interval-first : IsQueue before [] → IsQueue (oneTick ∷ before) (x ∷ d ∷ [])
 interval-first empty =

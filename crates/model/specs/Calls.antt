@@ -76,6 +76,6 @@ lentTo (serverFireAfter id n r u) = []
 lentTo (serverFireWhen id w r u) = []
 lentTo (serve list) = list
 
--- how many numbers a call answers: get clock seven, any other one
+-- how many numbers a call answers: get clock seven, any other one; how far a set clock moved stands beside (`movement`)
 abbrev pub answerCount : Call → ℕ
 answerCount c = cond (eqb (callNumber c) 12) 7 1

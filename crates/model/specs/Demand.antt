@@ -1,19 +1,22 @@
 -- Demand 3: a single claim about every list of calls from every accepted lay out, the last definition here. Assumes nothing: these are definitions.
 use mathlib.Core.Path.{_≡_}
 use Prim.Native.Nat.{ℕ, suc, _+_, _*_, _≤_}
-use mathlib.Core.Bool.{true, false, cond}
+use mathlib.Core.Bool.{true, false, cond, _&&_}
 use mathlib.Core.Option.{none, some}
 use mathlib.Core.List.{List, [], _∷_, _++_, map, reverse}
 use lib.ListN.{length, getD, take, replicate}
-use lib.Dec.{eqb}
+use lib.IntN.{pos, _-ℤ_}
+use lib.Dec.{ltb, eqb}
 use Rattle.calendar.specs.declared.WallTime.{WallTime}
+use Rattle.calendar.specs.Calendar.{valid, dateOf}
 use Rattle.model.specs.Lists.{keep, any, count, InOrder}
-use Rattle.model.specs.Calls.{Call, layOut, create, cancel, reset, ticksLeft, tick, setClock, serve, lentTo, answerCount}
+use Rattle.model.specs.Calls.{Call, layOut, create, cancel, reset, ticksLeft, tick, setClock, getClock, serve, lentTo, answerCount}
 use Rattle.model.specs.Kinds.{Chain, ByTicks, ByDate, Queue, kindAt, chainFor}
 use Rattle.model.specs.State.{Slot, Link, slotAt, waitAt, indexOf, names, Fired, listed}
 use Rattle.model.specs.Words.{first, sumOf, word, along, links, read, slotCount, ticksPerSecond, clockSet, seconds, ticksInto, serverInitiated, previousOf}
+use Rattle.model.specs.Directives.{numbers}
 use Rattle.model.specs.Sound.{sound}
-use Rattle.model.specs.Outcome.{outcome}
+use Rattle.model.specs.Outcome.{outcome, movement}
 use Rattle.model.specs.History.{Start, Event, changes, lastStart, lastsAfter, Placed, Waiting, eventOf, eventsOn, perSecond, clockAfter, movesClock, starts, waits, fires, inChain, ticksLeftOrDate, waiting, entryOf, entry, isInitiated, servesIn, IsQueue, queuedAs, ends, serves, takenOff}
 
 -- Each call gets the table that the last one left.
@@ -104,6 +107,16 @@ pub record Answers (t : List ℕ) (es : List Event) (c : Call) (e : Event) : Typ
   -- An accepted reset is a start for ticks, that timer's last start again.
   pub restarts : (id : ℕ) → c ≡ reset id → outcome t c .status ≡ 0
       → (s : Start) × (e ≡ changes id (some s)) × (s .id ≡ id) × (chainFor (s .mode) ≡ ByTicks) × (lastStart id es ≡ some s)
+  -- A set clock is refused with 101 where its list is shorter than 3N words, then with 20 where its date is not valid or its ticks are T or more.
+  pub sets : (w : WallTime) (list : List ℕ) → c ≡ setClock w list
+      → outcome t c .status ≡ cond (ltb (length list) (3 * slotCount t)) 101 (cond (valid w && ltb (w .ticks) (ticksPerSecond t)) 0 20)
+  -- It answers how far the clock moved, as new minus old in ticks; 0 on the first accepted set since the lay out, and on a refusal.
+  pub moves : (w : WallTime) (list : List ℕ) → c ≡ setClock w list → outcome t c .status ≡ 0 → (old new : ℕ)
+      → clockAfter 0 es ≡ some old → clockAfter 0 (e ∷ es) ≡ some new → movement t w list ≡ pos new -ℤ pos old
+  pub moves-first : (w : WallTime) (list : List ℕ) → c ≡ setClock w list → outcome t c .status ≡ 0 → clockAfter 0 es ≡ none → movement t w list ≡ pos 0
+  pub stays : (w : WallTime) (list : List ℕ) → c ≡ setClock w list → (outcome t c .status ≡ 0 → ⊥) → movement t w list ≡ pos 0
+  -- Get clock gives the date of the clock's second and, in ticks, those into it.
+  pub reads : c ≡ getClock → outcome t c .status ≡ 0 → outcome t c .answer ≡ numbers (dateOf (seconds t)) (ticksInto t)
   -- Ticks left are those in the interval chain; 0 for a timer that is not there.
   pub left : (id : ℕ) → c ≡ ticksLeft id → outcome t c .status ≡ 0 → outcome t c .answer ≡ waitAt (indexOf id) (links ByTicks t) ∷ []
   -- An id names a timer as long as it lasts; a create answers one that named none.

@@ -5,6 +5,7 @@ use mathlib.Core.Bool.{Bool, true, false, cond, not, _&&_}
 use mathlib.Core.Option.{Option, none, some}
 use mathlib.Core.List.{List, [], _∷_, _++_, map}
 use lib.ListN.{length, take, drop, replicate}
+use lib.IntN.{ℤ, pos, _-ℤ_}
 use lib.Dec.{leb, ltb, eqb}
 use Rattle.calendar.specs.declared.WallTime.{WallTime}
 use Rattle.calendar.specs.Calendar.{allOf, valid, secondsOf, lastSecond, dateOf}
@@ -24,12 +25,15 @@ lowestFree s = lowest (λ x. eqb (x .kind) 0) 1 (s .slots)
 abbrev pub lowestNamed : State → ℕ → ℕ
 lowestNamed s name = lowest (λ x. eqb (x .name) name) 1 (s .slots)
 
--- the list is shorter than 3N words; the date is not valid, or not after the present second
+-- the list is shorter than 3N words; the date is not valid, or not after the present second; it is not valid, or its ticks are T or more
 abbrev pub isShort : State → List ℕ → Bool
 isShort s list = ltb (length list) (3 * length (s .slots))
 
 abbrev pub notAhead : State → WallTime → Bool
 notAhead s w = not (valid w && ltb (s .clock .second) (secondsOf w))
+
+abbrev pub notSettable : State → WallTime → Bool
+notSettable s w = not (valid w && ltb (w .ticks) (s .clock .perSecond))
 
 -- N is 1 to 255 and T 1 to 1,000
 abbrev pub limits : ℕ → ℕ → List Bool
@@ -197,11 +201,19 @@ ticked s =
     let later = withClock (fire ByTicks 0 near) clock in
     firing (fire ByDate (clock .second) later) (withoutServer (s .slots) (due ByTicks 0 near ++ due ByDate (clock .second) later))
 
--- Set clock: seconds as given, word 4 to 0, clock set. Dated timers at or before the new second fire now. Interval timers don't change. A clock
--- set back moves no date.
-abbrev pub clockMoved : State → ℕ → Effect
-clockMoved s second =
-    let now = withClock s (clockAt (s .clock) second 0) in firing (fire ByDate second now) (withoutServer (s .slots) (due ByDate second now))
+-- Set clock: seconds as given, the ticks field in word 4, clock set. Dated timers at or before the new second fire now. Interval timers don't
+-- change. A clock set back moves no date.
+abbrev pub clockMoved : State → ℕ → ℕ → Effect
+clockMoved s second ticksInto =
+    let now = withClock s (clockAt (s .clock) second ticksInto) in firing (fire ByDate second now) (withoutServer (s .slots) (due ByDate second now))
+
+-- a clock counted in ticks
+abbrev pub inTicks : Clock → ℕ
+inTicks c = c .second * c .perSecond + c .ticksInto
+
+-- How far the clock moved, as new minus old in ticks, below zero when set back; 0 on the first set since the lay out.
+abbrev pub movedBy : Clock → Clock → ℤ
+movedBy old new = cond (old .isSet) (pos (inTicks new) -ℤ pos (inTicks old)) (pos 0)
 
 -- Get clock gives the date and, in ticks, word 4.
 abbrev pub numbers : WallTime → ℕ → List ℕ
@@ -273,8 +285,8 @@ directive (tick list) = record {
   does = λ s. ticked s;
 }
 directive (setClock d list) = record {
-  rules = λ w s. unsound w ∷ when ListTooShort (isShort s list) ∷ when InvalidClock (not (valid d)) ∷ [];
-  does = λ s. clockMoved s (secondsOf d);
+  rules = λ w s. unsound w ∷ when ListTooShort (isShort s list) ∷ when InvalidClock (notSettable s d) ∷ [];
+  does = λ s. clockMoved s (secondsOf d) (d .ticks);
 }
 directive getClock = record {
   rules = λ w s. unsound w ∷ when NotDefined (not (s .clock .isSet)) ∷ [];

@@ -1,4 +1,4 @@
--- Document 01, "The words of demand 3", and document 02, items 1 and 5: what a list of accepted calls means, with no table in sight.
+-- Document 01, "The words of demand 3", and document 02, items 1, 2 and 5: what a list of accepted calls means, with no table in sight.
 -- A list of events is read backwards, the latest first. Assumes nothing: these are definitions.
 use Prim.Native.Nat.{ℕ, suc, _+_, _-_, _*_, _%_, min}
 use mathlib.Core.Path.{_≡_}
@@ -31,7 +31,7 @@ pub data Event : Type 0 where
   changes : ℕ → Option Start → Event
   deletes : ℕ → Event
   oneTick : Event
-  clockSetTo : ℕ → Event
+  clockSetTo : ℕ → ℕ → Event
   initiates : Event
   servesFront : Event
   nothing : Event
@@ -42,7 +42,7 @@ startIn (laidOutFor t) = none
 startIn (changes id s) = s
 startIn (deletes id) = none
 startIn oneTick = none
-startIn (clockSetTo d) = none
+startIn (clockSetTo d n) = none
 startIn initiates = none
 startIn servesFront = none
 startIn nothing = none
@@ -58,7 +58,7 @@ lastStart id (laidOutFor t ∷ before) = none
 lastStart id (changes i s ∷ before) = newer id s (lastStart id before)
 lastStart id (deletes i ∷ before) = cond (eqb i id) none (lastStart id before)
 lastStart id (oneTick ∷ before) = lastStart id before
-lastStart id (clockSetTo d ∷ before) = lastStart id before
+lastStart id (clockSetTo d n ∷ before) = lastStart id before
 lastStart id (initiates ∷ before) = lastStart id before
 lastStart id (servesFront ∷ before) = lastStart id before
 lastStart id (nothing ∷ before) = lastStart id before
@@ -76,7 +76,7 @@ eventOf before (fireEvery id n r u) = changes id (some (startOf id Every n r u))
 eventOf before (reset id) = changes id (lastStart id before)
 eventOf before (ticksLeft id) = nothing
 eventOf before (tick list) = oneTick
-eventOf before (setClock w list) = clockSetTo (secondsOf w)
+eventOf before (setClock w list) = clockSetTo (secondsOf w) (w .ticks)
 eventOf before getClock = nothing
 eventOf before initiateServer = initiates
 eventOf before (serverFireAfter id n r u) = changes id (some (startOf id ServerAfter n r u))
@@ -117,7 +117,7 @@ isTick (laidOutFor t) = false
 isTick (changes i s) = false
 isTick (deletes i) = false
 isTick oneTick = true
-isTick (clockSetTo d) = false
+isTick (clockSetTo d n) = false
 isTick initiates = false
 isTick servesFront = false
 isTick nothing = false
@@ -132,20 +132,20 @@ perSecond (laidOutFor t ∷ before) = t
 perSecond (changes i s ∷ before) = perSecond before
 perSecond (deletes i ∷ before) = perSecond before
 perSecond (oneTick ∷ before) = perSecond before
-perSecond (clockSetTo d ∷ before) = perSecond before
+perSecond (clockSetTo d n ∷ before) = perSecond before
 perSecond (initiates ∷ before) = perSecond before
 perSecond (servesFront ∷ before) = perSecond before
 perSecond (nothing ∷ before) = perSecond before
 
 -- The clock is unset from a lay out to the next set clock. After that it stands, counted in ticks, at the seconds given in the latest
--- set clock times T plus the ticks since that one, but never above 3,534,451,200 T - 1.
+-- set clock times T plus the ticks given there and the ticks since that one, but never above 3,534,451,200 T - 1.
 abbrev pub clockAfter : ℕ → List Event → Option ℕ
 clockAfter since [] = none
 clockAfter since (laidOutFor t ∷ before) = none
 clockAfter since (changes i s ∷ before) = clockAfter since before
 clockAfter since (deletes i ∷ before) = clockAfter since before
 clockAfter since (oneTick ∷ before) = clockAfter (suc since) before
-clockAfter since (clockSetTo d ∷ before) = some (min (d * perSecond before + since) (suc lastSecond * perSecond before - 1))
+clockAfter since (clockSetTo d n ∷ before) = some (min (d * perSecond before + n + since) (suc lastSecond * perSecond before - 1))
 clockAfter since (initiates ∷ before) = clockAfter since before
 clockAfter since (servesFront ∷ before) = clockAfter since before
 clockAfter since (nothing ∷ before) = clockAfter since before
@@ -164,7 +164,7 @@ movesClock (laidOutFor t) = false
 movesClock (changes i s) = false
 movesClock (deletes i) = false
 movesClock oneTick = true
-movesClock (clockSetTo d) = true
+movesClock (clockSetTo d n) = true
 movesClock initiates = false
 movesClock servesFront = false
 movesClock nothing = false
@@ -187,7 +187,7 @@ ends id (laidOutFor t) = true
 ends id (changes i s) = eqb i id
 ends id (deletes i) = eqb i id
 ends id oneTick = false
-ends id (clockSetTo d) = false
+ends id (clockSetTo d n) = false
 ends id initiates = false
 ends id servesFront = false
 ends id nothing = false
@@ -295,7 +295,7 @@ isInitiated (laidOutFor t ∷ before) = false
 isInitiated (changes i s ∷ before) = isInitiated before
 isInitiated (deletes i ∷ before) = isInitiated before
 isInitiated (oneTick ∷ before) = isInitiated before
-isInitiated (clockSetTo d ∷ before) = isInitiated before
+isInitiated (clockSetTo d n ∷ before) = isInitiated before
 isInitiated (initiates ∷ before) = true
 isInitiated (servesFront ∷ before) = isInitiated before
 isInitiated (nothing ∷ before) = isInitiated before
@@ -306,7 +306,7 @@ servesIn (laidOutFor t) = 0
 servesIn (changes i s) = 0
 servesIn (deletes i) = 0
 servesIn oneTick = 0
-servesIn (clockSetTo d) = 0
+servesIn (clockSetTo d n) = 0
 servesIn initiates = 0
 servesIn servesFront = 1
 servesIn nothing = 0

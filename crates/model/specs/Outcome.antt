@@ -4,11 +4,14 @@ use Prim.Native.Nat.{ℕ}
 use mathlib.Core.Bool.{cond}
 use mathlib.Core.List.{List, [], _∷_, _++_, map}
 use lib.ListN.{length, take, drop, replicate}
+use lib.IntN.{ℤ, pos}
 use lib.Dec.{eqb}
 use Rattle.model.specs.Status.{firstOf}
-use Rattle.model.specs.Calls.{Call, lentTo, answerCount}
+use Rattle.calendar.specs.declared.WallTime.{WallTime}
+use Rattle.calendar.specs.Calendar.{secondsOf}
+use Rattle.model.specs.Calls.{Call, setClock, lentTo, answerCount}
 use Rattle.model.specs.State.{Fired, listed}
-use Rattle.model.specs.Directives.{refusals, effect}
+use Rattle.model.specs.Directives.{refusals, effect, clockAt, movedBy}
 use Rattle.model.specs.Words.{writtenOver, read}
 
 -- what comes of a call
@@ -47,3 +50,8 @@ accepted t c =
 -- Accepted means status 0; any other status is a refusal.
 unfoldable pub outcome : List ℕ → Call → Outcome
 outcome t c = cond (eqb (statusOn t c) 0) (accepted t c) (refused (statusOn t c) t c)
+
+-- How far a set clock moved the clock, a number beside the outcome: 0 on a refusal.
+abbrev pub movement : List ℕ → WallTime → List ℕ → ℤ
+movement t w list =
+    let old = read t .clock in cond (eqb (statusOn t (setClock w list)) 0) (movedBy old (clockAt old (secondsOf w) (w .ticks))) (pos 0)

@@ -19,7 +19,7 @@ same-length : tie.Need-same-length
 same-length c = search needs
 
 returns : tie.Need-returns
-returns c = clock-set (c .args .t .now) (c .pre) (c .args .second)
+returns c = clock-set (c .args .t .now) (c .pre) (c .args .second) (c .args .ticks)
 
 pub set-clock-spec : {M : Type 1} → statement M
 set-clock-spec =
