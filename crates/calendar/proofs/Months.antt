@@ -1,5 +1,5 @@
 -- Where months begin, if February had 30 days: along a straight line. Computed for each month of both rows, it holds of every year. So the
--- month in which a day lies is found on that line. Assumes nothing.
+-- month in which a day lies is that of its 32nd part, or the next. Assumes nothing.
 use mathlib.Core.Bool.{Bool, true, false, cond, _&&_}
 use mathlib.Core.List.{List}
 use mathlib.Core.Path.{_≡_, refl, ap, _∙_}
@@ -9,7 +9,6 @@ use lib.Dec.{ltb, eqb}
 use lib.ListN.{getD}
 use borrow.Author.Tests.{eqb-true, ltb-true, ltb-false, lt-ltb, le-ltb}
 use Rattle.calendar.specs.Calendar.{leapFlag, monthsOf, total, before}
-use Rattle.calendar.proofs.Spans.{before-next}
 use Rattle.calendar.proofs.Years.{leap-is, by-row, year-length}
 
 -- the days before a month, if February had 30
@@ -53,48 +52,17 @@ starts-late year m from to =
     let late = ap (λ (b : Bool). cond b (leapFlag year) 2) (le-ltb m 2 from) in
     omega arith
 
--- a day of a year, and where it stands on the line
-pub record Shifted (year day shifted : ℕ) : Type 0 where
-  pub in-year : day < total (monthsOf year)
-  pub early : day < 59 + leapFlag year → shifted ≡ day
-  pub late : 59 + leapFlag year ≤ day → shifted + leapFlag year ≡ day + 2
+-- A day of a year lies in the month of its 32nd part, or in the next.
 
--- such a day lies before the line's end
-pub shifted-short : (year day shifted : ℕ) → Shifted year day shifted → shifted ≤ 366
-shifted-short year day shifted s = go (ltb day (59 + leapFlag year)) refl
+pub not-before : (year day : ℕ) → day < total (monthsOf year) → (day / 32 < 12) × (before (monthsOf year) (day / 32) ≤ day)
+not-before year day h = (short, go (ltb (day / 32) 2) refl)
   where
-    go : (b : Bool) → ltb day (59 + leapFlag year) ≡ b → shifted ≤ 366
-    go true e = let h = ltb-true day (59 + leapFlag year) e in omega (arith, s .early h, h, leap-is year)
-    go false e = omega (arith, s .late (ltb-false day (59 + leapFlag year) e), s .in-year, year-length year)
+    short : day / 32 < 12
+    short = omega (arith, year-length year, leap-is year)
 
--- day d of month m
-pub record OfMonth (year day m d : ℕ) : Type 0 where
-  pub short : d < getD (monthsOf year) m 0
-  pub is : day ≡ before (monthsOf year) m + d
+    go : (b : Bool) → ltb (day / 32) 2 ≡ b → before (monthsOf year) (day / 32) ≤ day
+    go true e = let early = ltb-true (day / 32) 2 e in omega (arith, starts-early year (day / 32) early)
+    go false e = let late = ltb-false (day / 32) 2 e in omega (arith, starts-late year (day / 32) late (omega (arith, short)), leap-is year)
 
--- the month in which such a day lies is the one in which it lies on the line
-pub of-month : (year day shifted m : ℕ) → Shifted year day shifted → m < 12 → start m ≤ shifted → shifted < start (m + 1)
-    → OfMonth year day m (shifted - start m)
-of-month year day shifted m s h from to = go (ltb day (59 + leapFlag year)) refl
-  where
-    next : before (monthsOf year) (m + 1) ≡ before (monthsOf year) m + getD (monthsOf year) m 0
-    next = before-next (monthsOf year) m
-
-    to-february : shifted ≡ day → (b : Bool) → ltb m 1 ≡ b → day < 59 + leapFlag year → OfMonth year day m (shifted - start m)
-    to-february e true v u =
-        let first = ltb-true m 1 v in
-        omega (arith, next, starts-early year m (omega arith), starts-early year (m + 1) (omega arith))
-    to-february e false v u =
-        let l = leap-is year in
-        let second = ltb-false m 1 v in
-        let two : m ≡ 1 = omega arith in
-        omega (arith, next, starts-early year m (omega arith), starts-late year (m + 1) (omega arith) (omega arith))
-
-    go : (b : Bool) → ltb day (59 + leapFlag year) ≡ b → OfMonth year day m (shifted - start m)
-    go true e = let u = ltb-true day (59 + leapFlag year) e in to-february (s .early u) (ltb m 1) refl u
-    go false e =
-        let u = ltb-false day (59 + leapFlag year) e in
-        let v = s .late u in
-        let l = leap-is year in
-        let from-march : 2 ≤ m = omega arith in
-        omega (arith, next, starts-late year m from-march (omega arith), starts-late year (m + 1) (omega arith) (omega arith))
+pub not-after : (year day : ℕ) → day / 32 + 1 + 1 ≤ 12 → day < before (monthsOf year) (day / 32 + 1 + 1)
+not-after year day h = omega (arith, starts-late year (day / 32 + 1 + 1) (omega arith) h)

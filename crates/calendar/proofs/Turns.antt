@@ -52,7 +52,7 @@ abbrev pub turnsOf : mir.Name → ℕ
 turnsOf =
     numbered
     (("calendar::leap_flag", 0)
-    ∷ ("calendar::lacking_days", 0)
+    ∷ ("calendar::month_length", 0)
     ∷ ("calendar::month_start", 0)
     ∷ ("calendar::year_day", 0)
     ∷ ("calendar::month_day", 1)

@@ -1,13 +1,13 @@
 -- The years' lengths, the days before a year, and the years of each four: what holds of both rows holds of every year.
 -- Assumes nothing.
-use mathlib.Core.Bool.{Bool, true, false, cond}
-use mathlib.Core.List.{List, []}
+use mathlib.Core.Bool.{Bool, true, false, cond, _&&_}
+use mathlib.Core.List.{List, [], _∷_}
 use mathlib.Core.Path.{_≡_, refl, ap, _∙_}
 use Prim.Native.Nat.{ℕ, zero, suc, _+_, _-_, _*_, _/_, _%_, _≤_, _<_}
 use native.Mathlib.Omega.{arith}
-use lib.Dec.{eqb}
+use lib.Dec.{ltb, eqb}
 use lib.ListN.{length, getD}
-use borrow.Author.Tests.{eqb-true, eqb-false}
+use borrow.Author.Tests.{eqb-true, eqb-false, ltb-true}
 use Rattle.calendar.specs.Calendar.{leapFlag, monthLengths, monthsOf, yearsFrom, years, total, before}
 use Rattle.calendar.proofs.Spans.{before-more}
 
@@ -36,6 +36,23 @@ year-short year = omega (arith, year-length year, leap-is year)
 
 pub twelve : (year : ℕ) → length (monthsOf year) ≡ 12
 twelve = by-row (λ row flag. length row ≡ 12) refl refl
+
+-- no month has 32 days
+abbrev allShort : List ℕ → Bool
+allShort [] = true
+allShort (d ∷ row) = ltb d 32 && allShort row
+
+row-short : (row : List ℕ) → allShort row ≡ true → (m : ℕ) → getD row m 0 < 32
+row-short [] e m = omega arith
+row-short (d ∷ row) e m = go (ltb d 32) refl e (λ f n. row-short row f n) m
+  where
+    go : (b : Bool) → ltb d 32 ≡ b → (b && allShort row) ≡ true → (allShort row ≡ true → (n : ℕ) → getD row n 0 < 32) → (m : ℕ) → getD (d ∷ row) m 0 < 32
+    go false p f rest m = let z : _≡_ {A = ℕ} 0 1 = ap (λ (b : Bool). cond b 1 0) f in absurd (omega arith)
+    go true p f rest zero = ltb-true d 32 p
+    go true p f rest (suc m) = rest f m
+
+pub month-short : (year m : ℕ) → getD (monthsOf year) m 0 < 32
+month-short year = row-short (monthsOf year) (by-row (λ row flag. allShort row ≡ true) refl refl year)
 
 yearsFrom-at : (n year k : ℕ) → k < n → getD (yearsFrom n year) k 0 ≡ total (monthsOf (year + k))
 yearsFrom-at zero year k h = omega arith

@@ -39,7 +39,7 @@ pub const LAST_SECOND: u32 = 3534451199;
 const MONTHS: u32 = 12;
 
 // The months' lengths, January first: of a common year, and of a leap year.
-const MONTH_LENGTHS: [[u32; 12]; 2] = [
+const MONTH_LENGTHS: [[u8; 12]; 2] = [
     [31, 28, 31, 30, 31, 30, 31, 31, 30, 31, 30, 31],
     [31, 29, 31, 30, 31, 30, 31, 31, 30, 31, 30, 31],
 ];
@@ -58,8 +58,8 @@ const THIRD_YEAR: u32 = SECOND_YEAR + COMMON_YEAR_DAYS;
 
 const FOURTH_YEAR: u32 = THIRD_YEAR + COMMON_YEAR_DAYS;
 
-// The days of a year before March, if it is common, and the days that its February lacks of 30.
-const BEFORE_MARCH: u32 = 59;
+// February, January being month 0, and the days that it lacks of 30 in a common year.
+const FEBRUARY: u32 = 1;
 
 const FEBRUARY_LACKS: u32 = 2;
 
@@ -102,7 +102,7 @@ fn month_length(year: u32, month: u32) -> u32
     ensures { λ r. ⌜ r ≡ getD (monthsOf year) month 0 ⌝ }
 {
     let leap = leap_flag(year);
-    MONTH_LENGTHS[leap][month as usize]
+    MONTH_LENGTHS[leap][month as usize] as u32
 }
 
 // Whether a wall time is a date and a time of the calendar.
@@ -225,25 +225,17 @@ fn year_day(day: u32) -> YearDay
     }
 }
 
-// The days before a month, January being month 0, if February had 30 days: months of 31 and of 30 days then begin along a straight line.
-fn month_start(month: u32) -> u32
+// The days of a year before one of its months, January being month 0: if February had 30 days, months would begin along a straight line.
+fn month_start(year: u32, month: u32) -> u32
     requires { ⌜ month ≤ 12 ⌝ }
-    ensures { λ r. ⌜ r ≡ (month * 489 + 8) / 16 ⌝ }
+    ensures { λ r. ⌜ r ≡ before (monthsOf year) month ⌝ }
 {
-    (month * MONTH_SIXTEENTHS + FIRST_SIXTEENTHS) / SIXTEENTHS
-}
-
-// The days that February lacks of 30, on a day of a year after its end; before that none.
-fn lacking_days(year: u32, day: u32) -> u32
-    ensures before { λ r. ⌜ (day < 59 + leapFlag year → r ≡ 0) ⌝ }
-    ensures after { λ r. ⌜ (59 + leapFlag year ≤ day → r ≡ 2 - leapFlag year) ⌝ }
-{
-    let leap = leap_flag(year) as u32;
-    if day < BEFORE_MARCH + leap {
-        0
-    } else {
-        FEBRUARY_LACKS - leap
+    let on_line = (month * MONTH_SIXTEENTHS + FIRST_SIXTEENTHS) / SIXTEENTHS;
+    if month <= FEBRUARY {
+        return on_line;
     }
+    let leap = leap_flag(year) as u32;
+    on_line - (FEBRUARY_LACKS - leap)
 }
 
 // A day of a month, both counted from 0.
@@ -253,21 +245,24 @@ struct MonthDay {
 }
 
 // The month and the day in it of a day of a year, all counted from 0. No month has 32 days, so the month is not before the day divided by 32,
-// and at most one after it: the loop turns once or not at all.
+// and at most one after it: the loop over the months' lengths turns once or not at all.
 fn month_day(year: u32, day: u32) -> MonthDay
     requires { ⌜ day < total (monthsOf year) ⌝ }
     ensures { λ r. ⌜ (r .month < 12) × (r .day < getD (monthsOf year) (r .month) 0) × (day ≡ before (monthsOf year) (r .month) + r .day) ⌝ }
 {
-    let lacking = lacking_days(year, day);
-    let shifted = day + lacking;
-    let mut month = shifted / MONTH_LIMIT;
-    while month_start(month + 1) <= shifted {
+    let mut month = day / MONTH_LIMIT;
+    let start = month_start(year, month);
+    let mut left = day - start;
+    loop {
+        let length = month_length(year, month);
+        if left < length {
+            return MonthDay {
+                month: month,
+                day: left,
+            };
+        }
+        left -= length;
         month += 1;
-    }
-    let start = month_start(month);
-    MonthDay {
-        month: month,
-        day: shifted - start,
     }
 }
 
