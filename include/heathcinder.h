@@ -162,7 +162,7 @@ uint32_t hc_tick(uint32_t *table, size_t words, uint32_t *fired, size_t fired_wo
 /* Sets the clock to the second given, as many ticks into it as the ticks field says. Dated timers at or before that second
  * fire now, listed as by hc_tick, and those of the server are queued. Interval timers do not change, and a clock set back
  * moves no date. Answers how many are listed, and how far the clock moved: new minus old in ticks, below 0 where it was set
- * back, and 0 the first time since the lay out.
+ * back, 0 where the clock was not set since the lay out.
  * HC_LIST_TOO_SHORT: fewer than HC_LIST_WORDS(N) words of list. HC_INVALID_CLOCK: date not valid, or ticks of T or more. */
 uint32_t hc_set_clock(uint32_t *table, size_t words, const struct hc_wall_time *now, uint32_t *fired,
                       size_t fired_words, uint32_t *count, int64_t *moved);

@@ -971,6 +971,26 @@ static void moved_from_end_to_end(void)
     }
 }
 
+/* By as many ticks as 31 and 32 bits have, and one fewer and more, there and back. */
+static void moved_around_32_bits(void)
+{
+    static const struct { uint32_t day, hour, second; int64_t ticks; } moves[] = {
+        {24, 20 * 3600 + 31 * 60, 23, INT64_C(2147483648)}, {49, 17 * 3600 + 2 * 60, 47, INT64_C(4294967296)}};
+    is("lay out", 0, lay_out(SLOTS, 1000));
+    struct hc_wall_time first = at(1988, 1, 1, 0, 0, 0);
+    is("set clock", 0, set_clock(first));
+    for (size_t i = 0; i < sizeof moves / sizeof *moves; i++)
+        for (int beside = -1; beside <= 1; beside++) {
+            uint32_t time = moves[i].hour;
+            struct hc_wall_time then = at(1988, moves[i].day < 31 ? 1 : 2, moves[i].day % 31 + 1, time / 3600, time / 60 % 60,
+                                          moves[i].second);
+            is("set clock", 0, set_clock(with_ticks(then, (uint32_t)(moves[i].ticks % 1000) + (uint32_t)beside)));
+            moved_is("so far on", moves[i].ticks + beside);
+            is("set clock", 0, set_clock(first));
+            moved_is("so far back", -moves[i].ticks - beside);
+        }
+}
+
 /* Timers of the server at or before the new second are queued, whatever the ticks. */
 static void queued_with_ticks(void)
 {
@@ -1065,6 +1085,7 @@ int main(void)
     how_far_it_moved();
     moved_from_the_first_second();
     moved_from_end_to_end();
+    moved_around_32_bits();
     queued_with_ticks();
     printf("edges: %u checks\n", checks);
     return 0;

@@ -60,8 +60,8 @@ const char *const turn_texts[TURNS] = {
     [QUEUED_AND_NONE_FIRED] = "a timer is queued and none fires"};
 
 const char *const date_case_texts[DATE_CASES] = {
-    [SET_FIRST] = "the clock was not set, and a later second than the first is",
-    [SET_FIRST_WITH_TICKS] = "the clock was not set, and ticks above 0 are", [SET_ALIKE] = "the clock stays where it is",
+    [SET_FIRST] = "the clock was not set, and is set to a second after 1988-01-01 00:00:00",
+    [SET_FIRST_WITH_TICKS] = "the clock was not set, and is set with ticks above 0", [SET_ALIKE] = "the clock stays where it is",
     [SET_FORWARD] = "the clock is set forward", [SET_BACK] = "the clock is set back",
     [FORWARD_IN_THE_SECOND] = "the clock is set forward within its second",
     [BACK_IN_THE_SECOND] = "the clock is set back within its second",

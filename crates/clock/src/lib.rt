@@ -1,4 +1,4 @@
-// The clock: a tick, set clock and get clock. Their contracts are as those of crate `timer`; `readingStatus` and `readingAnswer`
+// The clock: a tick, set clock and get clock. Their contracts are as those of crate `timer`, set clock's with a second equation; `readingStatus` and `readingAnswer`
 // (answers/specs/Answers.antt) say what get clock's answer is in document 01's numbers.
 ghost use mathlib.Core.Path.{_≡_};
 ghost use mathlib.Core.Bool.{true};
