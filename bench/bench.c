@@ -155,6 +155,19 @@ static void next_tick_is_a_date(void)
     table[CLOCK_TICKS] = RATE - 1;
 }
 
+/* The clock stands at another second, and what waits for a date waits as long as before. */
+static void move_clock(uint32_t seconds)
+{
+    for (uint32_t i = table[FIRST_DATED]; i != 0; i = slot(i)[NEXT])
+        slot(i)[WAIT] += seconds - table[SECONDS];
+    table[SECONDS] = seconds;
+}
+
+/* Noon of the first day, of a leap day and of the last day. */
+static void first_day(void) { move_clock(43200u); }
+static void leap_day(void) { move_clock(383832000u); }
+static void last_day(void) { move_clock(3534408000u); }
+
 static void idle_is_periodic(void) { slot(idle)[KIND] = IDLE_PERIODIC; }
 
 /* ---- Tables ---- */
@@ -424,6 +437,8 @@ static const struct bench {
     {"tick, all fire (periodic)", do_tick, &periodic, next_tick_fires},
     {"tick, all periodic fire (quarter)", do_tick, &quarter, next_tick_fires},
     {"set_clock, half the dated fire", do_set_clock, &mixed, NULL}, {"get_clock", do_get_clock, &mixed, NULL},
+    {"get_clock, 1988-01-01", do_get_clock, &mixed, first_day}, {"get_clock, 2000-02-29", do_get_clock, &mixed, leap_day},
+    {"get_clock, 2099-12-31", do_get_clock, &mixed, last_day},
     {"initiate_server", do_initiate_server, &mixed, NULL}, {"server_fire_after (server)", do_server_fire_after, &server, NULL},
     {"server_fire_after behind all (server full)", do_server_fire_after, &server_full, NULL},
     {"server_fire_when (server)", do_server_fire_when, &server, NULL}, {"serve (queued)", do_serve, &in_queue, NULL},

@@ -1,13 +1,13 @@
--- The years' lengths, the days before a year, and the year of a day within four years: what holds of both rows holds of every year.
+-- The years' lengths, the days before a year, and the years of each four: what holds of both rows holds of every year.
 -- Assumes nothing.
-use mathlib.Core.Bool.{Bool, true, false, cond}
-use mathlib.Core.List.{List, []}
+use mathlib.Core.Bool.{Bool, true, false, cond, _&&_}
+use mathlib.Core.List.{List, [], _∷_}
 use mathlib.Core.Path.{_≡_, refl, ap, _∙_}
 use Prim.Native.Nat.{ℕ, zero, suc, _+_, _-_, _*_, _/_, _%_, _≤_, _<_}
 use native.Mathlib.Omega.{arith}
-use lib.Dec.{eqb}
+use lib.Dec.{ltb, eqb}
 use lib.ListN.{length, getD}
-use borrow.Author.Tests.{eqb-true, eqb-false}
+use borrow.Author.Tests.{eqb-true, eqb-false, ltb-true}
 use Rattle.calendar.specs.Calendar.{leapFlag, monthLengths, monthsOf, yearsFrom, years, total, before}
 use Rattle.calendar.proofs.Spans.{before-more}
 
@@ -28,7 +28,7 @@ by-row P common leap year = go (eqb (year % 4) 0)
     go true = leap
     go false = common
 
-year-length : (year : ℕ) → total (monthsOf year) ≡ 365 + leapFlag year
+pub year-length : (year : ℕ) → total (monthsOf year) ≡ 365 + leapFlag year
 year-length = by-row (λ row flag. total row ≡ 365 + flag) refl refl
 
 pub year-short : (year : ℕ) → total (monthsOf year) ≤ 366
@@ -36,6 +36,23 @@ year-short year = omega (arith, year-length year, leap-is year)
 
 pub twelve : (year : ℕ) → length (monthsOf year) ≡ 12
 twelve = by-row (λ row flag. length row ≡ 12) refl refl
+
+-- no month has 32 days
+abbrev allShort : List ℕ → Bool
+allShort [] = true
+allShort (d ∷ row) = ltb d 32 && allShort row
+
+row-short : (row : List ℕ) → allShort row ≡ true → (m : ℕ) → getD row m 0 < 32
+row-short [] e m = omega arith
+row-short (d ∷ row) e m = go (ltb d 32) refl e (λ f n. row-short row f n) m
+  where
+    go : (b : Bool) → ltb d 32 ≡ b → (b && allShort row) ≡ true → (allShort row ≡ true → (n : ℕ) → getD row n 0 < 32) → (m : ℕ) → getD (d ∷ row) m 0 < 32
+    go false p f rest m = let z : _≡_ {A = ℕ} 0 1 = ap (λ (b : Bool). cond b 1 0) f in absurd (omega arith)
+    go true p f rest zero = ltb-true d 32 p
+    go true p f rest (suc m) = rest f m
+
+pub month-short : (year m : ℕ) → getD (monthsOf year) m 0 < 32
+month-short year = row-short (monthsOf year) (by-row (λ row flag. allShort row ≡ true) refl refl year)
 
 yearsFrom-at : (n year k : ℕ) → k < n → getD (yearsFrom n year) k 0 ≡ total (monthsOf (year + k))
 yearsFrom-at zero year k h = omega arith
@@ -62,24 +79,19 @@ pub all-years : length years ≡ 112
 unfolding years
 all-years = refl
 
--- day n of four years, of which the first is year 4g, lies in the year that a division gives
-pub record InFour (g n y : ℕ) : Type 0 where
+-- year y of four years, of which the first is year 4g, is as long as year y of the first four
+pub record InFour (g y : ℕ) : Type 0 where
   pub year : g * 4 + y < 112
-  pub from : before years y ≤ n
-  pub to : n - before years y < total (monthsOf (1988 + (g * 4 + y)))
+  pub long : total (monthsOf (1988 + (g * 4 + y))) ≡ getD years y 0
   pub passed : before years (g * 4 + y) ≡ g * 1461 + before years y
 
-pub in-four : (g n : ℕ) → g < 28 → n < 1461 → InFour g n (n * 4 / 1461)
-in-four g n hg hn =
-    let y = n * 4 / 1461 in
-    let small : y ≤ 3 = omega arith in
+pub in-four : (g y : ℕ) → g < 28 → y < 4 → InFour g y
+in-four g y hg hy =
     let start = before-years y (omega arith) in
     let all = before-years (g * 4 + y) (omega arith) in
-    let leaps : (y + 3) / 4 ≡ 1 - (1 - y) = omega arith in
-    let flag : (1988 + (g * 4 + y)) % 4 ≡ y = omega arith in
+    let first = years-at y (omega arith) in
     record {
       year = omega arith;
-      from = omega arith;
-      to = omega (arith, year-length (1988 + (g * 4 + y)), leap-is (1988 + (g * 4 + y)));
+      long = omega (arith, first, year-length (1988 + y), year-length (1988 + (g * 4 + y)), leap-is (1988 + y), leap-is (1988 + (g * 4 + y)));
       passed = omega arith;
     }

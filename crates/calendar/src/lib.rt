@@ -1,7 +1,7 @@
 // The civil calendar from 1988 to 2099: which wall times are valid, and the seconds from 1988-01-01 00:00:00 to and from them.
 ghost use mathlib.Core.Path.{_≡_};
 ghost use mathlib.Core.Bool.{true};
-ghost use Prim.Native.Nat.{_+_, _<_, _≤_};
+ghost use Prim.Native.Nat.{_+_, _-_, _*_, _/_, _<_, _≤_};
 ghost use lib.ListN.{getD};
 ghost use Rattle.calendar.specs.Calendar.{leapFlag, monthsOf, valid, total, before, years, daysOf, secondsOf, lastSecond, dateOf, instantOf, dateAnswer};
 
@@ -39,7 +39,7 @@ pub const LAST_SECOND: u32 = 3534451199;
 const MONTHS: u32 = 12;
 
 // The months' lengths, January first: of a common year, and of a leap year.
-const MONTH_LENGTHS: [[u32; 12]; 2] = [
+const MONTH_LENGTHS: [[u8; 12]; 2] = [
     [31, 28, 31, 30, 31, 30, 31, 31, 30, 31, 30, 31],
     [31, 29, 31, 30, 31, 30, 31, 31, 30, 31, 30, 31],
 ];
@@ -50,6 +50,28 @@ const LEAP_EVERY: u32 = 4;
 const COMMON_YEAR_DAYS: u32 = 365;
 
 const FOUR_YEARS_DAYS: u32 = 1461;
+
+// The days of four years before the second, the third and the fourth of them.
+const SECOND_YEAR: u32 = COMMON_YEAR_DAYS + 1;
+
+const THIRD_YEAR: u32 = SECOND_YEAR + COMMON_YEAR_DAYS;
+
+const FOURTH_YEAR: u32 = THIRD_YEAR + COMMON_YEAR_DAYS;
+
+// February, January being month 0, and the days that it lacks of 30 in a common year.
+const FEBRUARY: u32 = 1;
+
+const FEBRUARY_LACKS: u32 = 2;
+
+// Where months begin if February had 30 days, in sixteenths of a day: half a day for January, and as much more for each month as the last of these.
+const SIXTEENTHS: u32 = 16;
+
+const FIRST_SIXTEENTHS: u32 = 8;
+
+const MONTH_SIXTEENTHS: u32 = 489;
+
+// More days than a month has.
+const MONTH_LIMIT: u32 = 32;
 
 // A minute, an hour, a day and four years, in seconds.
 const MINUTE: u32 = 60;
@@ -80,7 +102,7 @@ fn month_length(year: u32, month: u32) -> u32
     ensures { λ r. ⌜ r ≡ getD (monthsOf year) month 0 ⌝ }
 {
     let leap = leap_flag(year);
-    MONTH_LENGTHS[leap][month as usize]
+    MONTH_LENGTHS[leap][month as usize] as u32
 }
 
 // Whether a wall time is a date and a time of the calendar.
@@ -171,19 +193,66 @@ pub fn to_seconds(w: WallTime) -> Instant
     }
 }
 
+// A year of four and a day of it, both counted from 0.
+struct YearDay {
+    year: u32,
+    day: u32,
+}
+
+// The year and the day in it of a day of four years, the first of which is leap, all counted from 0.
+fn year_day(day: u32) -> YearDay
+    requires { ⌜ day < 1461 ⌝ }
+    ensures { λ r. ⌜ (r .year < 4) × (day ≡ before years (r .year) + r .day) × (r .day < getD years (r .year) 0) ⌝ }
+{
+    if day < SECOND_YEAR {
+        return YearDay { year: 0, day: day };
+    }
+    if day < THIRD_YEAR {
+        return YearDay {
+            year: 1,
+            day: day - SECOND_YEAR,
+        };
+    }
+    if day < FOURTH_YEAR {
+        return YearDay {
+            year: 2,
+            day: day - THIRD_YEAR,
+        };
+    }
+    YearDay {
+        year: 3,
+        day: day - FOURTH_YEAR,
+    }
+}
+
+// The days of a year before one of its months, January being month 0: if February had 30 days, months would begin along a straight line.
+fn month_start(year: u32, month: u32) -> u32
+    requires { ⌜ month ≤ 12 ⌝ }
+    ensures { λ r. ⌜ r ≡ before (monthsOf year) month ⌝ }
+{
+    let on_line = (month * MONTH_SIXTEENTHS + FIRST_SIXTEENTHS) / SIXTEENTHS;
+    if month <= FEBRUARY {
+        return on_line;
+    }
+    let leap = leap_flag(year) as u32;
+    on_line - (FEBRUARY_LACKS - leap)
+}
+
 // A day of a month, both counted from 0.
 struct MonthDay {
     month: u32,
     day: u32,
 }
 
-// The month and the day in it of a day of a year, all counted from 0. Each turn passes a month, so there are at most twelve.
+// The month and the day in it of a day of a year, all counted from 0. No month has 32 days, so the month is not before the day divided by 32,
+// and at most one after it: the loop over the months' lengths turns once or not at all.
 fn month_day(year: u32, day: u32) -> MonthDay
     requires { ⌜ day < total (monthsOf year) ⌝ }
     ensures { λ r. ⌜ (r .month < 12) × (r .day < getD (monthsOf year) (r .month) 0) × (day ≡ before (monthsOf year) (r .month) + r .day) ⌝ }
 {
-    let mut month = 0;
-    let mut left = day;
+    let mut month = day / MONTH_LIMIT;
+    let start = month_start(year, month);
+    let mut left = day - start;
     loop {
         let length = month_length(year, month);
         if left < length {
@@ -197,21 +266,20 @@ fn month_day(year: u32, day: u32) -> MonthDay
     }
 }
 
-// The wall time of a second of the calendar. Divisions find the four years and the year in them, so that no loop counts years:
-// the only one is over months, in `month_day`, of at most twelve turns.
+// The wall time of a second of the calendar. Divisions find the four years and the day of them, comparisons the year, so that no loop counts
+// years: the only one is over months, in `month_day`.
 fn date_in_range(s: u32) -> WallTime
     requires { ⌜ s ≤ lastSecond ⌝ }
     ensures { λ r. ⌜ r ≡ dateOf s ⌝ }
 {
     let fours = s / FOUR_YEARS;
-    let day = s % FOUR_YEARS / DAY;
-    let years = day * LEAP_EVERY / FOUR_YEARS_DAYS;
-    let year = FIRST_YEAR + (fours * LEAP_EVERY + years);
-    let year_start = days_before_year(years);
-    let at = month_day(year, day - year_start);
-    let month = at.month + 1;
-    let date = at.day + 1;
-    let time = s % DAY;
+    let second = s % FOUR_YEARS;
+    let of_year = year_day(second / DAY);
+    let year = FIRST_YEAR + (fours * LEAP_EVERY + of_year.year);
+    let of_month = month_day(year, of_year.day);
+    let month = of_month.month + 1;
+    let date = of_month.day + 1;
+    let time = second % DAY;
     WallTime {
         year: year,
         month: month,

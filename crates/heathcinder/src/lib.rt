@@ -6,6 +6,7 @@ ghost use mathlib.Core.List.{[], _∷_};
 ghost use Rattle.model.specs.Calls as call;
 ghost use Rattle.model.specs.Outcome.{outcomeOf, outcome, movement};
 ghost use Rattle.heathcinder.specs.Exports.{wallTime};
+use answers::Reading;
 use answers::number_in;
 use answers::reading_numbers;
 use answers::reading_status;
@@ -174,11 +175,16 @@ pub extern "C" fn hc_set_clock(
     status_of(answer)
 }
 
+// The zeros of a refusal are written first: to choose between them and the date at the end takes longer.
 #[no_mangle]
 pub extern "C" fn hc_get_clock(table: &[u32], time: &mut [u32; 7]) -> u32
     ensures { λ r. ⌜ outcomeOf r (now (time .exit)) (now (table .entry)) [] ≡ outcome (now (table .entry)) call.getClock ⌝ }
 {
+    *time = [0; 7];
     let reading = clock::get_clock(table);
+    let Reading::Time(_) = reading else {
+        return reading_status(reading);
+    };
     *time = reading_numbers(reading);
     reading_status(reading)
 }
