@@ -598,6 +598,31 @@ uint32_t CALL(ticks_left)(const uint32_t *table, size_t words, uint32_t id, uint
     return HC_SUCCESSFUL;
 }
 
+/* Reads the header and one slot. */
+uint32_t CALL(next_due)(const uint32_t *table, size_t words, uint32_t *ticks)
+{
+    uint32_t due = 0, status = HC_NOT_SOUND;
+    if (words < HEADER_WORDS || table[SLOTS] - 1 >= MAX_SLOTS)
+        goto answer;
+    if (words < HEADER_WORDS + (size_t)SLOT_WORDS * table[SLOTS])
+        goto answer;
+    uint32_t first = table[FIRST_TICKING];
+    if (first > table[SLOTS])
+        goto answer;
+    if (first != 0) {
+        const uint32_t *s = slot_of(table, first);
+        if (s[KIND] >= KINDS || chain_of[s[KIND]] != FIRST_TICKING)
+            goto answer;
+        if (s[WAIT] == 0)
+            goto answer;
+        due = s[WAIT];
+    }
+    status = HC_SUCCESSFUL;
+answer:
+    *ticks = due;
+    return status;
+}
+
 /* What a tick does, where there may be server timers or not; gives how many are listed. */
 ALWAYS_INLINE uint32_t pass_tick(uint32_t *table, bool server, uint32_t last_queued, uint32_t *fired)
 {

@@ -34,6 +34,7 @@ uint32_t CALL(fire_when)(uint32_t *table, size_t words, uint32_t id, const struc
 uint32_t CALL(fire_every)(uint32_t *table, size_t words, uint32_t id, uint32_t ticks, uint32_t routine, uint32_t data);
 uint32_t CALL(reset)(uint32_t *table, size_t words, uint32_t id);
 uint32_t CALL(ticks_left)(const uint32_t *table, size_t words, uint32_t id, uint32_t *ticks);
+uint32_t CALL(next_due)(const uint32_t *table, size_t words, uint32_t *ticks);
 uint32_t CALL(tick)(uint32_t *table, size_t words, uint32_t *fired, size_t fired_words, uint32_t *count);
 uint32_t CALL(set_clock)(uint32_t *table, size_t words, const struct hc_wall_time *now, uint32_t *fired,
                          size_t fired_words, uint32_t *count, int64_t *moved);

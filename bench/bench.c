@@ -10,6 +10,7 @@
 #include <string.h>
 
 enum { WORDS = HC_TABLE_WORDS(MAX_SLOTS), LIST = HC_LIST_WORDS(MAX_SLOTS), RATE = 100, ROUTINE_NUMBER = 7, NEW_NAME = 7777 };
+enum { MANY = 100 };    /* calls of next due in a row */
 #define ID(index) (ID_BASE + (index))
 
 /* ---- The sides ---- */
@@ -25,6 +26,7 @@ struct side {
     uint32_t (*fire_every)(uint32_t *, size_t, uint32_t, uint32_t, uint32_t, uint32_t);
     uint32_t (*reset)(uint32_t *, size_t, uint32_t);
     uint32_t (*ticks_left)(const uint32_t *, size_t, uint32_t, uint32_t *);
+    uint32_t (*next_due)(const uint32_t *, size_t, uint32_t *);
     uint32_t (*tick)(uint32_t *, size_t, uint32_t *, size_t, uint32_t *);
     uint32_t (*set_clock)(uint32_t *, size_t, const struct hc_wall_time *, uint32_t *, size_t, uint32_t *, int64_t *);
     uint32_t (*get_clock)(const uint32_t *, size_t, struct hc_wall_time *);
@@ -35,11 +37,11 @@ struct side {
 };
 
 static const struct side library = {hc_lay_out, hc_create, hc_ident, hc_cancel, hc_delete, hc_fire_after,
-                                    hc_fire_when, hc_fire_every, hc_reset, hc_ticks_left, hc_tick, hc_set_clock,
+                                    hc_fire_when, hc_fire_every, hc_reset, hc_ticks_left, hc_next_due, hc_tick, hc_set_clock,
                                     hc_get_clock, hc_initiate_server, hc_server_fire_after, hc_server_fire_when,
                                     hc_serve};
 static const struct side plain = {plain_lay_out, plain_create, plain_ident, plain_cancel, plain_delete, plain_fire_after,
-                                  plain_fire_when, plain_fire_every, plain_reset, plain_ticks_left, plain_tick,
+                                  plain_fire_when, plain_fire_every, plain_reset, plain_ticks_left, plain_next_due, plain_tick,
                                   plain_set_clock, plain_get_clock, plain_initiate_server, plain_server_fire_after,
                                   plain_server_fire_when, plain_serve};
 
@@ -69,10 +71,11 @@ static uint32_t no_set_clock(uint32_t *t, size_t n, const struct hc_wall_time *w
 }
 static uint32_t no_get_clock(const uint32_t *t, size_t n, struct hc_wall_time *w) { return (void)t, (void)n, (void)w, 0; }
 static uint32_t no_initiate(uint32_t *t, size_t n) { return (void)t, (void)n, 0; }
+static uint32_t no_next_due(const uint32_t *t, size_t n, uint32_t *a) { return (void)t, (void)n, (void)a, 0; }
 
 static const struct side nothing = {no_lay_out, no_create, no_answer, no_change, no_change, no_fire_after, no_fire_when,
-                                    no_fire_after, no_change, no_answer, no_tick, no_set_clock, no_get_clock, no_initiate,
-                                    no_fire_after, no_fire_when, no_tick};
+                                    no_fire_after, no_change, no_answer, no_next_due, no_tick, no_set_clock, no_get_clock,
+                                    no_initiate, no_fire_after, no_fire_when, no_tick};
 static const struct sides sides = {&library, &plain, &nothing};
 
 /* ---- What every case works on: the table, the answers, and the timers it is about ---- */
@@ -106,6 +109,14 @@ static uint32_t do_fire_every(const struct side *s)
 static uint32_t do_reset(const struct side *s) { return s->reset(table, words, ID(idle)); }
 static uint32_t do_ticks_left(const struct side *s) { return s->ticks_left(table, words, ID(ticking), &answer); }
 static uint32_t do_last_ticks_left(const struct side *s) { return s->ticks_left(table, words, ID(ticking_last), &answer); }
+/* One is too short for the clock that times it, and takes no longer than the way into it: here that counts too. */
+static uint32_t do_next_due(const struct side *s)
+{
+    uint32_t status = HC_SUCCESSFUL, times = s == &nothing ? 1 : MANY;
+    for (uint32_t i = 0; i < times; i++)
+        status |= s->next_due(table, words, &answer);
+    return status;
+}
 static uint32_t do_tick(const struct side *s) { return s->tick(table, words, list, LIST, &answer); }
 static uint32_t do_set_clock(const struct side *s)
 {
@@ -418,6 +429,8 @@ static const struct bench {
     {"fire_every", do_fire_every, &mixed, NULL}, {"reset", do_reset, &mixed, NULL},
     {"reset, periodic", do_reset, &mixed, idle_is_periodic}, {"ticks_left", do_ticks_left, &mixed, NULL},
     {"ticks_left of the last (full)", do_last_ticks_left, &full, NULL}, {"tick", do_tick, &mixed, NULL},
+    {"next_due, 100 times", do_next_due, &mixed, NULL}, {"next_due, 100 times (full)", do_next_due, &full, NULL},
+    {"next_due, none waits for ticks, 100 times (server dated)", do_next_due, &server_dated, NULL},
     {"tick, a timer fires", do_tick, &mixed, next_tick_fires},
     {"tick, a periodic timer fires", do_tick, &mixed, next_tick_fires_again},
     {"tick, a dated timer fires", do_tick, &mixed, next_tick_is_a_date}, {"tick, all fire (due)", do_tick, &due, NULL},

@@ -1,7 +1,7 @@
 /* Heathcinder: a timer manager over a table of 32-bit words that the caller lends.
  *
  * The library keeps nothing of its own: all there is to know stands in the table. Every call on a table but hc_lay_out
- * begins by checking that the table is sound, and a refused call changes no word of table or list.
+ * and hc_next_due begins by checking that the table is sound, and a refused call changes no word of table or list.
  *
  * The table: a header of 10 words, then 8 words for each slot. Slot indexes run from 1; link 0 means none.
  *
@@ -77,7 +77,7 @@ extern "C" {
                                   cancel: the timer neither waits nor is queued */
 #define HC_INVALID_CLOCK 20u   /* set clock, fire when, server fire when: date not valid; set clock: ticks of T or more;
                                   fire when, server fire when: not after the present second */
-#define HC_NOT_SOUND 100u      /* any call on a table but lay out: it is not sound */
+#define HC_NOT_SOUND 100u      /* any call on a table but lay out: it is not sound; next due: what it reads is not */
 #define HC_LIST_TOO_SHORT 101u /* tick, set clock: fewer than 3N words of list; serve: fewer than 3 */
 
 /* Words that a table of so many slots takes, words of list that a tick or set clock on it needs, and those that a serve
@@ -92,10 +92,10 @@ struct hc_wall_time {
     uint32_t year, month, day, hour, minute, second, ticks;
 };
 
-/* Each call gives its status as the result: HC_NOT_SOUND where the table is not sound (but for hc_lay_out), then the
- * first that applies in the order named with the call, else HC_SUCCESSFUL. The answer of a call on a table goes through the
- * last pointer, and the two of hc_set_clock through the last two; on a refusal they are 0, and table and list stay as they
- * were. */
+/* Each call gives its status as the result: HC_NOT_SOUND where the table is not sound (but for hc_lay_out and, which has a
+ * rule of its own, hc_next_due), then the first that applies in the order named with the call, else HC_SUCCESSFUL. The answer
+ * of a call on a table goes through the last pointer, and the two of hc_set_clock through the last two; on a refusal they are
+ * 0, and table and list stay as they were. */
 
 /* Makes a table of so many free slots, clock not set, server not initiated; words is the length lent.
  * HC_INVALID_NUMBER: slots not 1 to 255, or ticks_per_second not 1 to 1000. HC_INVALID_SIZE: fewer than
@@ -149,6 +149,14 @@ uint32_t hc_reset(uint32_t *table, size_t words, uint32_t id);
 /* Answers the ticks until the timer fires or, one of the server, is queued; 0 if it does not wait for ticks.
  * HC_INVALID_ID: the id names no timer. */
 uint32_t hc_ticks_left(const uint32_t *table, size_t words, uint32_t id, uint32_t *ticks);
+
+/* Answers the ticks until the first timer that waits for ticks fires or is queued: the least that hc_ticks_left would answer
+ * for any of them; 0 if none waits for ticks. Dates do not count. For an idle loop: so many ticks minus one may be slept
+ * through. It alone makes no check of the whole table, reads only the header and one slot, and takes the same few
+ * nanoseconds however many slots there are.
+ * HC_NOT_SOUND: fewer than 10 words or than HC_TABLE_WORDS(N), N not 1 to 255, or word 5 above N or the index of a slot that
+ * does not wait for ticks or whose wait is 0. Where any of the rest is out of order it may answer all the same. */
+uint32_t hc_next_due(const uint32_t *table, size_t words, uint32_t *ticks);
 
 /* One tick passes: interval timers come nearer and those due fire; then the clock, if set, goes on, up to its last tick
  * in 2099, and dated timers that it reaches fire. Writes id, routine and user data of each timer that fires to the list:

@@ -1,6 +1,6 @@
 /* Damaged tables: one or two words changed, links that lead elsewhere, many words at once, or the slice cut short. A table
  * that is no longer sound must be refused with 100 and stay; one that still is must be served as the oracle serves what it
- * reads from it.
+ * reads from it. Next due alone answers on tables that are not sound, by its own rule.
  * Arguments: seed, number of calls. */
 #include "generate.h"
 
@@ -11,7 +11,7 @@
 static struct oracle original;     /* the state before any damage */
 static struct oracle served;       /* what a table that is still sound after it holds */
 static struct outcome expected;
-static uint64_t calls, refused, harmless;
+static uint64_t calls, refused, harmless, answered_unsound;
 static bool broken_alone[PARTS], broken_by[PARTS][KINDS + 1];       /* by a slot of the kind, or above the last */
 
 /* The undamaged table, and its place in memory: at its start, or ending at its end. */
@@ -204,10 +204,31 @@ static void note_alone(uint64_t broken, uint32_t kinds)
             broken_by[part][kind] = true;
 }
 
+/* By its own rule; and where the table is sound that is the least ticks left. */
+static void expect_next_due(bool sound)
+{
+    oracle_next_due(table, slice, &expected);
+    uint32_t status = expected.status, answer = expected.answer;
+    answered_unsound += !sound && status == HC_SUCCESSFUL;
+    if (!sound)
+        return;
+    struct call c = {.kind = NEXT_DUE};
+    oracle_call(&served, &c, &expected);
+    if (status != expected.status || answer != expected.answer)
+        fail("the test itself: by its rule %" PRIu32 " and %" PRIu32 ", by the timers %" PRIu32 " and %" PRIu32, status, answer,
+             expected.status, expected.answer);
+}
+
 static void expect(const struct call *c)
 {
     uint32_t kinds;
     uint64_t broken = oracle_broken(table, slice, &kinds);
+    if (c->kind == NEXT_DUE) {
+        if (!broken)
+            oracle_decode(table, &served);
+        expect_next_due(!broken);
+        return;
+    }
     if (broken && c->kind != LAY_OUT) {
         oracle_refuse_unsound(c, table, &expected);
         refused++;
@@ -273,5 +294,7 @@ int main(int count, char **arguments)
     place.call = NULL, place.table = 0;
     if (missing)
         fail("%u cases were not met", missing);
+    if (answered_unsound == 0)
+        fail("expected next due to answer on tables that are not sound, came none");
     return 0;
 }

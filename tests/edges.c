@@ -117,6 +117,11 @@ static uint32_t set_clock(struct hc_wall_time time)
     return make((struct call){.kind = SET_CLOCK, .time = time});
 }
 
+static uint32_t next_due(void)
+{
+    return make((struct call){.kind = NEXT_DUE});
+}
+
 static uint32_t initiate_server(void)
 {
     return make((struct call){.kind = INITIATE_SERVER});
@@ -1009,6 +1014,21 @@ static void queued_with_ticks(void)
     clock_is(2, 0);
 }
 
+/* A timer that is idle by all its words but the kind, which is none. */
+static void no_such_kind(void)
+{
+    fresh();
+    initiate_server();
+    server_fire_after(one, 5, 7, 70);
+    cancel(one);
+    is("idle", KIND_IDLE_SERVER_TICKING, kind(1));
+    is("sound", 0, ticks_left(one));
+    for (uint32_t past = KINDS; past < KINDS + 4; past++) {
+        table[slot_at(1, SLOT_KIND)] = past;
+        is("a kind past the last", HC_NOT_SOUND, ticks_left(one));
+    }
+}
+
 static void single_slot(void)
 {
     words = ONE_SLOT_WORDS;
@@ -1054,6 +1074,120 @@ static void session(void)
         fail("session: expected the ten lines of the specification, came others");
 }
 
+/* ---- When the next is due ---- */
+
+static void next_is(const char *what, uint32_t ticks)
+{
+    is(what, 0, next_due());
+    is(what, ticks, answer);
+}
+
+static void next_is_refused(const char *what)
+{
+    is(what, HC_NOT_SOUND, next_due());
+    is(what, 0, answer);
+}
+
+/* The first of the interval chain, whatever kind it is of; neither dates nor queued timers. */
+static void next_of_timers(void)
+{
+    fresh();
+    next_is("none waits", 0);
+    fire_after(one, 5, 7, 70);
+    next_is("one waits", 5);
+    fire_every(two, 3, 8, 80);
+    next_is("a nearer one", 3);
+    is("tick", 0, tick());
+    next_is("a tick later", 2);
+    cancel(two);
+    next_is("the other", 4);
+    reset(two);
+    next_is("the nearer one again", 3);
+    for (int i = 0; i < 3; i++)
+        tick();
+    is("it fired", 1, answer);
+    next_is("where the periodic one went back", 1);
+    cancel(one);
+    next_is("the periodic one", 3);
+    delete(two);
+    next_is("none waits", 0);
+    fire_after(one, UINT32_MAX, 7, 70);
+    next_is("the longest wait", UINT32_MAX);
+    cancel(one);
+    set_clock(at(2000, 1, 1, 0, 0, 0));
+    fire_when(one, at(2000, 1, 1, 0, 0, 1));
+    next_is("one waits for a date", 0);
+    initiate_server();
+    server_fire_after(one, 2, 7, 70);
+    next_is("one of the server", 2);
+    tick();
+    tick();
+    next_is("it is queued", 0);
+    serve(LIST);
+    next_is("it is idle", 0);
+}
+
+/* The words of the table with this slot count and first slot, and this kind and wait of slot 2; all others are not a sound
+ * table's. */
+static void strange(uint32_t slots, uint32_t first, uint32_t timer_kind, uint32_t wait)
+{
+    for (int i = 0; i < WORDS; i++)
+        table[i] = 99;
+    table[HEADER_SLOTS] = slots, table[HEADER_FIRST_TICKING] = first;
+    table[slot_at(2, SLOT_KIND)] = timer_kind, table[slot_at(2, SLOT_WAIT)] = wait;
+}
+
+/* Both sides of each of its rules; no other call takes these tables. */
+static void next_refusals(void)
+{
+    strange(3, 2, KIND_TICKING, 6);
+    next_is("any other words", 6);
+    is("ticks left", HC_NOT_SOUND, ticks_left(two));
+    for (uint32_t timer = 0; timer < KINDS + 2; timer++) {
+        strange(3, 2, timer, 6);
+        if (timer == KIND_TICKING || timer == KIND_PERIODIC || timer == KIND_SERVER_TICKING)
+            next_is("a kind that waits for ticks", 6);
+        else
+            next_is_refused("a kind that does not");
+    }
+    strange(3, 2, KIND_TICKING, 0);
+    next_is_refused("wait 0");
+    strange(3, 2, KIND_SERVER_TICKING, 1);
+    next_is("wait 1", 1);
+    strange(2, 2, KIND_PERIODIC, 6);
+    next_is("the last slot", 6);
+    strange(1, 2, KIND_PERIODIC, 6);
+    next_is_refused("a slot past the last");
+    strange(1, 0, KIND_PERIODIC, 6);
+    next_is("no slot", 0);
+    strange(0, 0, KIND_PERIODIC, 6);
+    next_is_refused("N 0");
+    strange(4, 0, KIND_PERIODIC, 6);
+    next_is_refused("N 4 and 34 words");
+    strange(UINT32_MAX, 0, KIND_PERIODIC, 6);
+    next_is_refused("the greatest N");
+}
+
+/* The slice of a table of the most slots, and of one more. */
+static void next_slices(void)
+{
+    static uint32_t big[HC_TABLE_WORDS(256)];
+    uint32_t ticks = 1;
+    big[HEADER_SLOTS] = 255;
+    is("2050 words", 0, hc_next_due(big, HC_TABLE_WORDS(255), &ticks));
+    is("none waits", 0, ticks);
+    big[HEADER_FIRST_TICKING] = 255, big[slot_at(255, SLOT_KIND)] = KIND_TICKING, big[slot_at(255, SLOT_WAIT)] = 8;
+    is("2050 words", 0, hc_next_due(big, HC_TABLE_WORDS(255), &ticks));
+    is("slot 255", 8, ticks);
+    is("2049 words", HC_NOT_SOUND, hc_next_due(big, HC_TABLE_WORDS(255) - 1, &ticks));
+    is("2049 words", 0, ticks);
+    big[HEADER_SLOTS] = 256;
+    is("N 256", HC_NOT_SOUND, hc_next_due(big, HC_TABLE_WORDS(256), &ticks));
+    big[HEADER_SLOTS] = 1, big[HEADER_FIRST_TICKING] = 0;
+    for (size_t length = 0; length < HC_TABLE_WORDS(1) + 2; length++)
+        is("so many words for N 1", length < HC_TABLE_WORDS(1) ? HC_NOT_SOUND : 0, hc_next_due(big, length, &ticks));
+}
+
 int main(void)
 {
     begin("edges", 0);
@@ -1087,6 +1221,10 @@ int main(void)
     moved_from_end_to_end();
     moved_around_32_bits();
     queued_with_ticks();
+    no_such_kind();
+    next_of_timers();
+    next_refusals();
+    next_slices();
     printf("edges: %u checks\n", checks);
     return 0;
 }

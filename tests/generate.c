@@ -278,7 +278,7 @@ static enum call_kind random_kind(const struct oracle *o)
 {
     static const uint32_t weights[CALLS] = {
         [CREATE] = 7, [IDENT] = 3, [CANCEL] = 6, [DELETE] = 4, [FIRE_AFTER] = 5, [FIRE_WHEN] = 6, [FIRE_EVERY] = 5,
-        [RESET] = 4, [TICKS_LEFT] = 3, [TICK] = 10, [SET_CLOCK] = 4, [GET_CLOCK] = 3, [INITIATE_SERVER] = 1,
+        [RESET] = 4, [TICKS_LEFT] = 3, [TICK] = 10, [SET_CLOCK] = 4, [GET_CLOCK] = 3, [NEXT_DUE] = 3, [INITIATE_SERVER] = 1,
         [SERVER_FIRE_AFTER] = 7, [SERVER_FIRE_WHEN] = 9, [SERVE] = 8};
     enum call_kind kind = weighted_call(weights);
     if (!o->initiated && with_server && one_in(4))

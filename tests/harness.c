@@ -165,6 +165,7 @@ static void describe_arguments(const struct call *c, char *text, size_t size)
         snprintf(text, size, ", %s, list %zu words", time, c->fired_words);
         break;
     case GET_CLOCK:
+    case NEXT_DUE:
     case INITIATE_SERVER:
         *text = '\0';
         break;
@@ -319,6 +320,8 @@ static uint32_t call_library(const void *arguments)
         return hc_set_clock(table, c->words, time, list, c->fired_words, answer, &moves[BESIDE]);
     case GET_CLOCK:
         return hc_get_clock(table, c->words, time);
+    case NEXT_DUE:
+        return hc_next_due(table, c->words, answer);
     case INITIATE_SERVER:
         return hc_initiate_server(table, c->words);
     case SERVER_FIRE_AFTER:
@@ -346,7 +349,8 @@ uint32_t watched(uint32_t (*call)(const void *), const void *arguments)
 
 static bool has_answer(enum call_kind kind)
 {
-    return kind == CREATE || kind == IDENT || kind == TICKS_LEFT || kind == TICK || kind == SET_CLOCK || kind == SERVE;
+    return kind == CREATE || kind == IDENT || kind == TICKS_LEFT || kind == TICK || kind == SET_CLOCK || kind == NEXT_DUE ||
+           kind == SERVE;
 }
 
 void perform(const struct call *c, uint32_t *table, uint32_t *list, struct came *came)
@@ -497,9 +501,11 @@ static void note(const struct call *c, const struct outcome *outcome, const stru
             by_pair[kind][outcome->status][reason_statuses[reason]] = true;
 }
 
-/* What an accepted call leaves becomes what table and list should be. */
+/* What an accepted call leaves becomes what table and list should be. Next due changes no word, whatever the table holds. */
 static void expect_words(const struct outcome *expected, const struct oracle *after)
 {
+    if (place.call->kind == NEXT_DUE)
+        return;
     oracle_encode(after, expected_of(place.memory, place.words));
     enum call_kind kind = place.call->kind;
     if (kind == TICK || kind == SET_CLOCK || kind == SERVE)

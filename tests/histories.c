@@ -45,6 +45,7 @@ enum setting { SET_AT_FIRST, MOVED_BY_NONE, MOVED_ON, MOVED_BACK, REFUSED_FOR_TI
 static uint64_t settings[SETTINGS];
 
 static uint64_t calls, fired_in_all, fired_again, served_in_all, served_sooner, accepted[CALLS], nothing_after[ENDINGS];
+static uint64_t none_due, some_due;      /* calls of next due where no timer waits for ticks, and where one does */
 static uint32_t span;
 static bool with_server;                /* whether it is to be initiated */
 
@@ -274,6 +275,18 @@ static void expect_ticks_left(const struct call *c, const struct came *came)
         fail("expected %" PRIu64 " ticks left, came %" PRIu32, left, came->answer);
 }
 
+/* The ticks until the first start by ticks that has not ended is due. */
+static void expect_next_due(const struct came *came)
+{
+    uint64_t left = 0;
+    for (uint32_t i = 0; i < waiting_count; i++)
+        if (!waiting[i].by_date && (left == 0 || next_due(&waiting[i]) - ticks < left))
+            left = next_due(&waiting[i]) - ticks;
+    if (came->answer != left)
+        fail("expected %" PRIu64 " ticks until the next is due, came %" PRIu32, left, came->answer);
+    none_due += left == 0, some_due += left != 0;
+}
+
 static void expect_clock(const struct came *came)
 {
     char wanted[TIME_TEXT], given[TIME_TEXT];
@@ -433,6 +446,9 @@ static void learn(const struct call *c, const struct came *came, const uint32_t 
     case GET_CLOCK:
         expect_clock(came);
         break;
+    case NEXT_DUE:
+        expect_next_due(came);
+        break;
     case INITIATE_SERVER:
         initiated = true;
         break;
@@ -527,8 +543,8 @@ static void random_history_call(struct call *c, size_t words)
 {
     static const uint32_t weights[CALLS] = {
         [CREATE] = 4, [IDENT] = 1, [CANCEL] = 2, [DELETE] = 1, [FIRE_AFTER] = 5, [FIRE_WHEN] = 3, [FIRE_EVERY] = 2,
-        [RESET] = 2, [TICKS_LEFT] = 1, [TICK] = 10, [GET_CLOCK] = 1, [SERVER_FIRE_AFTER] = 6, [SERVER_FIRE_WHEN] = 4,
-        [SERVE] = 4};
+        [RESET] = 2, [TICKS_LEFT] = 1, [TICK] = 10, [GET_CLOCK] = 1, [NEXT_DUE] = 2, [SERVER_FIRE_AFTER] = 6,
+        [SERVER_FIRE_WHEN] = 4, [SERVE] = 4};
     memset(c, 0, sizeof *c);
     c->kind = weighted_call(weights);
     if (c->kind == SERVE && queue_length() == 0 && !one_in(4))
@@ -565,6 +581,8 @@ static void make(struct call *c, uint32_t *table)
         expect_set_clock(c, came.status);
     else if (came.status == HC_INCORRECT_STATE)
         expect_server_refusal(c->kind);
+    if (c->kind == NEXT_DUE && came.status != HC_SUCCESSFUL)
+        fail("expected an answer, as after any list of calls, came status %" PRIu32, came.status);
     if (came.status != 0) {
         if (memcmp(list, list_before, c->fired_words * sizeof *list) != 0)
             fail("status %" PRIu32 ": expected the list to stay, came a change", came.status);
@@ -605,6 +623,8 @@ static void report(uint64_t seed)
             fail("expected cancels of timers never started, fired, cancelled and served, came none of one sort");
     if (fired_again == 0)
         fail("expected periodic timers to fire again, came none");
+    if (none_due == 0 || some_due == 0)
+        fail("expected next due where timers wait for ticks and where none does, came none of one sort");
     if (served_sooner == 0 || served_sooner == served_in_all)
         fail("expected timers to be served, some of them sooner for others taken off, came none or no others");
 }

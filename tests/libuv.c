@@ -1,13 +1,15 @@
 /* libuv's timers on a clock of our own, one millisecond a tick, as a second timer list for interval timers, periodic ones as
  * libuv's repeating ones: the same timers must fire, in the same order among equals, each with routine and data of its last
- * start, as many ticks must be left, and only the timers that libuv calls active can be cancelled. The wall clock is libuv's
- * time and an offset: to set it changes no timer, and moves it by as much as the offset changes.
+ * start, as many ticks must be left, the next must be due when libuv's loop would wake, and only the timers that libuv calls
+ * active can be cancelled. The wall clock is libuv's time and an offset: to set it changes no timer, and moves it by as much as
+ * the offset changes.
  * Arguments: seed, number of calls. */
 #define _DEFAULT_SOURCE
 #include "harness.h"
 #include "libc_calendar.h"
 
 #include <inttypes.h>
+#include <limits.h>
 #include <stdio.h>
 #include <time.h>
 #include <uv.h>
@@ -40,7 +42,7 @@ static struct {
 static uint32_t fired[SLOTS], fired_count;
 static bool clock_set;
 static int64_t offset;      /* of the wall clock against libuv's time, in ticks, once it is set */
-static uint64_t calls, fires, periodic_fires, cancels, idle_cancels, sets, sets_back;
+static uint64_t calls, fires, periodic_fires, cancels, idle_cancels, sets, sets_back, sleeps, ends;
 
 static void note_fired(uv_timer_t *timer)
 {
@@ -103,6 +105,20 @@ static void expect_left(uint32_t index)
         fail("expected %" PRIu64 " ticks left as libuv says, came %" PRIu32, left, came.answer);
 }
 
+/* libuv's loop would sleep so long, by an int; 0 where no timer is active, and then it would end. */
+static void expect_next_due(void)
+{
+    struct came came;
+    struct call c = {.kind = NEXT_DUE};
+    make(&c, 0, &came);
+    int sleep = uv_backend_timeout(loop);
+    if (sleep < 0 || (sleep > 0) != (uv_loop_alive(loop) != 0))
+        fail("the test itself: expected libuv to sleep exactly where a timer is active, came %d", sleep);
+    if ((came.answer > INT_MAX ? INT_MAX : came.answer) != (uint32_t)sleep)
+        fail("expected the next due in %d ticks, when libuv's loop would wake, came %" PRIu32, sleep, came.answer);
+    sleeps += sleep > 0, ends += sleep == 0;
+}
+
 static void expect_entry(uint32_t k)
 {
     uint32_t index = fired[k], id = list[fired_at(k, FIRED_ID)];
@@ -159,7 +175,7 @@ static void one_call(void)
     struct call c = {.id = ID_BASE + index, .ticks = one_in(100) ? UINT32_MAX : ticks};
     c.routine = 1 + below(UINT32_MAX), c.data = random_word();
     struct came came;
-    switch (below(9)) {
+    switch (below(10)) {
     case 0:
     case 1:
     case 2:
@@ -184,6 +200,9 @@ static void one_call(void)
     case 6:
         expect_left(index);
         break;
+    case 7:
+        expect_next_due();
+        break;
     default:
         tick();
     }
@@ -206,6 +225,10 @@ int main(int count, char **arguments)
         make(&create, 0, &came);
         uv_must(uv_timer_init(loop, &timers[i]));
     }
+    uv_must(uv_timer_start(&timers[1], note_fired, 1, 0));
+    uv_run(loop, UV_RUN_NOWAIT);    /* before its first run with a timer libuv does not say how long it would sleep */
+    uv_must(uv_timer_stop(&timers[1]));
+    expect_next_due();
     while (calls < wanted)
         one_call();
     printf("libuv %s: seed %" PRIu64 ", %" PRIu64 " calls, %" PRIu64 " timers fired, %" PRIu64 " of them periodic; %" PRIu64
@@ -213,6 +236,8 @@ int main(int count, char **arguments)
            uv_version_string(), seed, calls, fires, periodic_fires, cancels, idle_cancels, sets, sets_back);
     if (periodic_fires == 0 || periodic_fires == fires)
         fail("expected timers to fire, periodic ones and others, came none of one sort");
+    if (sleeps == 0 || ends == 0)
+        fail("expected next due where timers wait and where none does, came none of one sort");
     if (idle_cancels == 0 || idle_cancels == cancels)
         fail("expected cancels of active timers and of idle ones, came none of one sort");
     if (sets_back == 0 || sets_back == sets)

@@ -6,7 +6,7 @@
 
 const char *const call_names[CALLS] = {"lay_out", "create", "ident", "cancel", "delete", "fire_after", "fire_when",
                                        "fire_every", "reset", "ticks_left", "tick", "set_clock", "get_clock",
-                                       "initiate_server", "server_fire_after", "server_fire_when", "serve"};
+                                       "next_due", "initiate_server", "server_fire_after", "server_fire_when", "serve"};
 
 const char *const reason_texts[REASONS] = {
     [ACCEPTED] = "accepted", [TABLE_NOT_SOUND] = "table not sound", [LIST_SHORT] = "list shorter than 3N words",
@@ -20,7 +20,10 @@ const char *const reason_texts[REASONS] = {
     [BAD_DAY] = "day", [BAD_HOUR] = "hour", [BAD_MINUTE] = "minute", [BAD_SECOND] = "second",
     [DATE_NOT_AFTER] = "date not after the present second", [BAD_TICKS] = "ticks of T or more", [NEVER_STARTED_YET] = "kind 1",
     [IDLE_BY_DATE] = "kind 3", [WAITS_FOR_DATE] = "kind 5", [IDLE_SERVER_BY_DATE] = "kind 9",
-    [SERVER_WAITS_FOR_DATE] = "kind 11", [QUEUED_BY_DATE] = "kind 13"};
+    [SERVER_WAITS_FOR_DATE] = "kind 11", [QUEUED_BY_DATE] = "kind 13", [NO_HEADER] = "fewer than 10 words",
+    [NO_SUCH_SLOTS] = "fewer words than 10 + 8N", [COUNT_BELOW] = "N is 0", [COUNT_ABOVE] = "N is above 255",
+    [FIRST_ABOVE] = "word 5 is above N", [FIRST_NOT_WAITING] = "word 5 names a slot that is not waiting for ticks",
+    [FIRST_WAIT_ZERO] = "word 5 names a slot whose wait is 0"};
 
 const uint32_t reason_statuses[REASONS] = {
     [TABLE_NOT_SOUND] = 100, [LIST_SHORT] = 101, [SERVED_SHORT] = 101, [INITIATED_ALREADY] = 14, [NOT_INITIATED] = 14,
@@ -29,7 +32,8 @@ const uint32_t reason_statuses[REASONS] = {
     [TICKS_ZERO] = 10, [ROUTINE_ZERO] = 9, [CLOCK_UNSET] = 11, [BAD_YEAR] = 20, [BAD_MONTH] = 20, [BAD_DAY] = 20,
     [BAD_HOUR] = 20, [BAD_MINUTE] = 20, [BAD_SECOND] = 20, [DATE_NOT_AFTER] = 20, [BAD_TICKS] = 20,
     [NEVER_STARTED_YET] = 11, [IDLE_BY_DATE] = 11, [WAITS_FOR_DATE] = 11, [IDLE_SERVER_BY_DATE] = 11,
-    [SERVER_WAITS_FOR_DATE] = 11, [QUEUED_BY_DATE] = 11};
+    [SERVER_WAITS_FOR_DATE] = 11, [QUEUED_BY_DATE] = 11, [NO_HEADER] = 100, [NO_SUCH_SLOTS] = 100, [COUNT_BELOW] = 100,
+    [COUNT_ABOVE] = 100, [FIRST_ABOVE] = 100, [FIRST_NOT_WAITING] = 100, [FIRST_WAIT_ZERO] = 100};
 
 const char *const queue_place_texts[QUEUE_PLACES] = {
     [NOT_QUEUED] = "not queued", [QUEUED_ALONE] = "queued alone", [QUEUED_FIRST] = "queued ahead of others",
@@ -101,7 +105,7 @@ static const uint32_t orders[CALLS][MOST_REFUSALS] = {
     [LAY_OUT] = {10, 8}, [CREATE] = {100, 3, 5}, [IDENT] = {100, 3}, [CANCEL] = {100, 4, 14}, [DELETE] = {100, 4},
     [FIRE_AFTER] = {100, 10, 9, 4}, [FIRE_WHEN] = {100, 11, 9, 20, 4}, [FIRE_EVERY] = {100, 10, 9, 4},
     [RESET] = {100, 4, 11}, [TICKS_LEFT] = {100, 4}, [TICK] = {100, 101}, [SET_CLOCK] = {100, 101, 20},
-    [GET_CLOCK] = {100, 11}, [INITIATE_SERVER] = {100, 14}, [SERVER_FIRE_AFTER] = {100, 14, 10, 9, 4},
+    [GET_CLOCK] = {100, 11}, [NEXT_DUE] = {100}, [INITIATE_SERVER] = {100, 14}, [SERVER_FIRE_AFTER] = {100, 14, 10, 9, 4},
     [SERVER_FIRE_WHEN] = {100, 14, 11, 9, 20, 4}, [SERVE] = {100, 101, 14}};
 
 /* ---- Reasons, calls and kinds ---- */
@@ -361,6 +365,8 @@ static uint64_t faults_of(const struct oracle *o, const struct call *c)
         return bit(LIST_SHORT, list_short) | clock_faults(&c->time, o->ticks_per_second);
     case GET_CLOCK:
         return bit(CLOCK_UNSET, !o->clock_set);
+    case NEXT_DUE:
+        return 0;       /* a sound table has what it reads */
     case INITIATE_SERVER:
         return bit(INITIATED_ALREADY, o->initiated);
     case SERVER_FIRE_AFTER:
@@ -409,6 +415,7 @@ static uint64_t argument_faults(const struct call *c, const uint32_t *table)
     bool not_initiated = c->words > HEADER_INITIATED && table[HEADER_INITIATED] == 0;
     switch (c->kind) {
     case LAY_OUT:
+    case NEXT_DUE:
         return 0;
     case CREATE:
     case IDENT:
@@ -470,6 +477,30 @@ static enum reason first_reason(enum call_kind kind, uint64_t applying)
             if ((applying >> reason & 1) && orders[kind][place] == reason_statuses[reason])
                 return (enum reason)reason;
     return ACCEPTED;
+}
+
+/* What of the slice next due does not take; the first words that are missing hide what stands behind them. */
+static uint64_t first_faults(const uint32_t *table, size_t words)
+{
+    if (words < HEADER_WORDS)
+        return bit(NO_HEADER, true);
+    uint32_t slots = table[HEADER_SLOTS], first = table[HEADER_FIRST_TICKING];
+    uint64_t faults = bit(NO_SUCH_SLOTS, words < table_words(slots)) | bit(COUNT_BELOW, slots == 0) |
+                      bit(COUNT_ABOVE, slots > MAX_SLOTS) | bit(FIRST_ABOVE, first > slots);
+    if (faults || first == 0)
+        return faults;
+    return bit(FIRST_NOT_WAITING, !waits_for_ticks(table[slot_at(first, SLOT_KIND)])) |
+           bit(FIRST_WAIT_ZERO, table[slot_at(first, SLOT_WAIT)] == 0);
+}
+
+void oracle_next_due(const uint32_t *table, size_t words, struct outcome *outcome)
+{
+    clear(outcome);
+    outcome->applying = first_faults(table, words);
+    outcome->reason = first_reason(NEXT_DUE, outcome->applying);
+    outcome->status = reason_statuses[outcome->reason];
+    if (outcome->reason == ACCEPTED && table[HEADER_FIRST_TICKING] != 0)
+        outcome->answer = table[slot_at(table[HEADER_FIRST_TICKING], SLOT_WAIT)];
 }
 
 /* ---- What accepted calls do ---- */
@@ -633,6 +664,18 @@ static uint32_t ticks_left(const struct oracle *o, const struct oracle_timer *t)
     return t->waiting && t->started == BY_INTERVAL ? (uint32_t)(t->due - o->ticks) : 0;
 }
 
+/* The least ticks left over all waiting interval timers; 0 if there are none. */
+static uint32_t least_left(const struct oracle *o)
+{
+    uint32_t least = 0;
+    for (uint32_t i = 1; i <= o->slots; i++) {
+        uint32_t left = ticks_left(o, &o->timer[i]);
+        if (left != 0 && (least == 0 || left < least))
+            least = left;
+    }
+    return least;
+}
+
 static void apply(struct oracle *o, const struct call *c, struct outcome *out)
 {
     uint32_t index = c->id - ID_BASE, lowest = 0;
@@ -676,6 +719,9 @@ static void apply(struct oracle *o, const struct call *c, struct outcome *out)
     case GET_CLOCK:
         oracle_date_of(o->seconds, &out->clock);
         out->clock.ticks = o->clock_ticks;
+        break;
+    case NEXT_DUE:
+        out->answer = least_left(o);
         break;
     case INITIATE_SERVER:
         o->initiated = true;
@@ -1038,6 +1084,8 @@ bool oracle_possible(enum call_kind kind, enum reason reason)
                reason == BAD_TICKS;
     case GET_CLOCK:
         return reason == TABLE_NOT_SOUND || reason == CLOCK_UNSET;
+    case NEXT_DUE:
+        return reason == NO_HEADER || reason == NO_SUCH_SLOTS;      /* the others take damage: next_due.c */
     case INITIATE_SERVER:
         return reason == TABLE_NOT_SOUND || reason == INITIATED_ALREADY;
     case SERVER_FIRE_AFTER:

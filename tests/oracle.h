@@ -58,7 +58,7 @@ static inline size_t fired_at(uint32_t k, enum fired_word word)
 
 enum call_kind {
     LAY_OUT, CREATE, IDENT, CANCEL, DELETE, FIRE_AFTER, FIRE_WHEN, FIRE_EVERY, RESET, TICKS_LEFT, TICK, SET_CLOCK,
-    GET_CLOCK, INITIATE_SERVER, SERVER_FIRE_AFTER, SERVER_FIRE_WHEN, SERVE
+    GET_CLOCK, NEXT_DUE, INITIATE_SERVER, SERVER_FIRE_AFTER, SERVER_FIRE_WHEN, SERVE
 };
 enum { CALLS = SERVE + 1 };         /* no call itself, so that a switch over the calls needs no other case */
 
@@ -82,6 +82,7 @@ enum reason {
     TICKS_ZERO, ROUTINE_ZERO, CLOCK_UNSET,
     BAD_YEAR, BAD_MONTH, BAD_DAY, BAD_HOUR, BAD_MINUTE, BAD_SECOND, DATE_NOT_AFTER, BAD_TICKS,
     NEVER_STARTED_YET, IDLE_BY_DATE, WAITS_FOR_DATE, IDLE_SERVER_BY_DATE, SERVER_WAITS_FOR_DATE, QUEUED_BY_DATE,
+    NO_HEADER, NO_SUCH_SLOTS, COUNT_BELOW, COUNT_ABOVE, FIRST_ABOVE, FIRST_NOT_WAITING, FIRST_WAIT_ZERO,
     REASONS
 };
 
@@ -187,6 +188,9 @@ uint64_t oracle_broken(const uint32_t *table, size_t words, uint32_t *kinds);
 /* What a call other than lay out gives on a table that is not sound: a refusal with 100. Of the other reasons, those apply
  * that the arguments give alone, or one word of the table where the slice has it: they must come second. */
 void oracle_refuse_unsound(const struct call *call, const uint32_t *table, struct outcome *outcome);
+
+/* What next due gives on any slice of words, sound or not: its refusals are its own. */
+void oracle_next_due(const uint32_t *table, size_t words, struct outcome *outcome);
 
 /* The state that a sound table holds. */
 void oracle_decode(const uint32_t *table, struct oracle *state);

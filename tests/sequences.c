@@ -80,7 +80,10 @@ static void make_cut(struct sequence *s, struct call *c)
     c->words = words;
     go_to(s, c, cut);
     cut_slices++;
-    oracle_refuse_unsound(c, cut, &expected);
+    if (c->kind == NEXT_DUE)
+        oracle_next_due(cut, words, &expected);
+    else
+        oracle_refuse_unsound(c, cut, &expected);
     try_call(&expected, &s->oracle);
     memcpy(s->table, kept, s->reachable * sizeof(uint32_t));
     memcpy(expected_of(s->memory, s->table), kept, s->reachable * sizeof(uint32_t));

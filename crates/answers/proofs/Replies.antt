@@ -33,8 +33,8 @@ module _ (t : List ℕ) (c : Call) where
   accepts none = sym (outcome-accepted t c (status-is t c ∙ none-given (rules t c) none))
 
   -- answer, table and list as the call leaves them
-  pub done : (answer table list : List ℕ) → All (λ r. r .given ≡ false) (rules t c) → answer ≡ effect (read t) c .answer
-      → table ≡ writtenOver (effect (read t) c .state) t → list ≡ written (map (listed (read t .slots)) (effect (read t) c .fired)) (lentTo c)
+  pub done : (answer table list : List ℕ) → All (λ r. r .given ≡ false) (rules t c) → answer ≡ effect t (read t) c .answer
+      → table ≡ accepted t c .table → list ≡ written (map (listed (read t .slots)) (effect t (read t) c .fired)) (lentTo c)
       → outcomeOf 0 answer table list ≡ outcome t c
   done answer table list none a u l = (λ j. outcomeOf 0 (a j) (u j) (l j)) ∙ accepts none
 

@@ -46,6 +46,8 @@ const GET_CLOCK: u32 = 12;
 
 const FIRE_EVERY: u32 = 13;
 
+const NEXT_DUE: u32 = 14;
+
 const INITIATE_SERVER: u32 = 15;
 
 const SERVER_FIRE_AFTER: u32 = 16;
@@ -69,6 +71,8 @@ const SHORT_CREATE: u32 = 102;
 const SHORT_TICK: u32 = 110;
 
 const SHORT_SET_CLOCK: u32 = 111;
+
+const SHORT_NEXT_DUE: u32 = 114;
 
 // The words of a table and of a list for three slots.
 const TABLE: usize = 34;
@@ -189,6 +193,7 @@ fn short_call(number: u32, a: u32, b: u32, table: &mut [u32; TABLE]) -> Answer {
     match number {
         SHORT_LAY_OUT => lay_out(&mut cut, a, b),
         SHORT_CREATE => create(&mut cut, a),
+        SHORT_NEXT_DUE => next_due::next_due(&cut),
         SHORT_TICK => tick(table, &mut list),
         _ => Answer::Done(MOST),
     }
@@ -226,6 +231,7 @@ fn call(
         RESET => reset(table, a),
         TICKS_LEFT => ticks_left(table, a),
         TICK => tick(table, list),
+        NEXT_DUE => next_due::next_due(table),
         INITIATE_SERVER => initiate_server(table),
         SERVER_FIRE_AFTER => server_fire_after(table, a, b, c, d),
         SERVER_FIRE_WHEN => server_fire_when(table, a, wall_time(b, c, MOST), d, e),

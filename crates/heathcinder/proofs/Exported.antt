@@ -13,12 +13,12 @@ use Rattle.model.specs.Outcome.{Outcome, outcomeOf, statusOn, refused, accepted
 
 -- ---- a call with no answer of its own
 
-silent : (b : Bool) (status : ℕ) (t : List ℕ) (c : Call) → effect (read t) c .answer ≡ 0 ∷ [] → answerCount c ≡ 1
+silent : (b : Bool) (status : ℕ) (t : List ℕ) (c : Call) → effect t (read t) c .answer ≡ 0 ∷ [] → answerCount c ≡ 1
     → cond b (accepted t c) (refused status t c) .answer ≡ 0 ∷ []
 silent true status t c e one = e
 silent false status t c e one = ap (λ (n : ℕ). replicate n 0) one
 
-outcome-silent : (t : List ℕ) (c : Call) → effect (read t) c .answer ≡ 0 ∷ [] → answerCount c ≡ 1 → outcome t c .answer ≡ 0 ∷ []
+outcome-silent : (t : List ℕ) (c : Call) → effect t (read t) c .answer ≡ 0 ∷ [] → answerCount c ≡ 1 → outcome t c .answer ≡ 0 ∷ []
 unfolding outcome
 outcome-silent t c e one = silent (eqb (statusOn t c) 0) (statusOn t c) t c e one
 
@@ -28,6 +28,6 @@ module _ {table list : List ℕ} {s status : ℕ} {a : List ℕ} where
   pub answers : {answer : List ℕ} {o : Outcome} → outcomeOf s a table list ≡ o → status ≡ s → answer ≡ a → outcomeOf status answer table list ≡ o
   answers e p q = (λ j. outcomeOf (p j) (q j) table list) ∙ e
 
-  pub answers-none : (t : List ℕ) (c : Call) → effect (read t) c .answer ≡ 0 ∷ [] → answerCount c ≡ 1 → outcomeOf s a table list ≡ outcome t c
+  pub answers-none : (t : List ℕ) (c : Call) → effect t (read t) c .answer ≡ 0 ∷ [] → answerCount c ≡ 1 → outcomeOf s a table list ≡ outcome t c
       → status ≡ s → outcomeOf status (0 ∷ []) table list ≡ outcome t c
   answers-none t c none one e p = answers e p (sym (ap (λ (o : Outcome). o .answer) e ∙ outcome-silent t c none one))

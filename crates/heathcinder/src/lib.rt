@@ -43,7 +43,7 @@ fn wall_time(numbers: &[u32; 7]) -> WallTime
     }
 }
 
-// The calls. Each is the call of that name of `timer`, `starts`, `clock` or `server`, with the same arguments.
+// The calls. Each is the call of that name of `timer`, `starts`, `clock`, `next_due` or `server`, with the same arguments.
 #[no_mangle]
 pub extern "C" fn hc_lay_out(table: &mut [u32], slots: u32, rate: u32) -> u32
     ensures { λ r. ⌜ outcomeOf r (0 ∷ []) (now (table .exit)) [] ≡ outcome (now (table .entry)) (call.layOut slots rate) ⌝ }
@@ -137,6 +137,15 @@ pub extern "C" fn hc_ticks_left(table: &[u32], id: u32, ticks: &mut u32) -> u32
     let answer = timer::ticks_left(table, id);
     *ticks = number_in(answer);
     status_of(answer)
+}
+
+#[no_mangle]
+pub extern "C" fn hc_next_due(table: &[u32], ticks: &mut u32) -> u32
+    ensures { λ r. ⌜ outcomeOf r (now (ticks .exit) ∷ []) (now (table .entry)) [] ≡ outcome (now (table .entry)) call.nextDue ⌝ }
+{
+    let due = next_due::next_due(table);
+    *ticks = number_in(due);
+    status_of(due)
 }
 
 #[no_mangle]

@@ -13,10 +13,10 @@ use Rattle.calendar.specs.declared.WallTime.{WallTime}
 use Rattle.calendar.specs.Calendar.{allOf, valid, secondsOf}
 use Rattle.model.specs.Lists.{All}
 use Rattle.model.specs.Status.{NotSound, numberOf, Refusal, when, firstOf}
-use Rattle.model.specs.Calls.{Call, layOut, create, ident, cancel, delete, fireAfter, fireWhen, fireEvery, reset, ticksLeft, tick, setClock, getClock, initiateServer, serverFireAfter, serverFireWhen, serve}
+use Rattle.model.specs.Calls.{Call, layOut, create, ident, cancel, delete, fireAfter, fireWhen, fireEvery, reset, ticksLeft, tick, setClock, getClock, nextDue, initiateServer, serverFireAfter, serverFireWhen, serve}
 use Rattle.model.specs.Kinds.{linked, lastByTicks}
 use Rattle.model.specs.State.{State, slotAt, idBase, indexOf, names}
-use Rattle.model.specs.Directives.{lowestFree, lowestNamed, isShort, limits, refusals}
+use Rattle.model.specs.Directives.{lowestFree, lowestNamed, isShort, limits, firstTests, refusals}
 use Rattle.model.specs.Sound.{sound}
 use Rattle.model.proofs.StatusLaws.{not-zero}
 use Rattle.model.proofs.ListLaws.{cases, clash, both, and-both, all-at, all-true}
@@ -122,6 +122,7 @@ Accepted w s (ticksLeft id) = Named s id
 Accepted w s (tick list) = LongEnough s list
 Accepted w s (setClock d list) = LongEnough s list × (valid d ≡ true) × (d .ticks < s .clock .perSecond)
 Accepted w s getClock = s .clock .isSet ≡ true
+Accepted w s nextDue = allOf (firstTests w) ≡ true
 Accepted w s initiateServer = s .server ≡ false
 Accepted w s (serverFireAfter id n r u) = (s .server ≡ true) × StartsByTicks s id n r
 Accepted w s (serverFireWhen id d r u) = (s .server ≡ true) × StartsByDate s id d r
@@ -184,6 +185,7 @@ module _ (words : List ℕ) (s : State) where
       let date = both (valid w) (ltb (w .ticks) T) (not-false (valid w && ltb (w .ticks) T) (p 2)) in
       (long-enough list (p 1), date .0, ltb-true (w .ticks) T (date .1))
   accepted-facts getClock e = not-false (s .clock .isSet) (not-refused getClock e 1)
+  accepted-facts nextDue e = not-false (allOf (firstTests words)) (not-refused nextDue e 0)
   accepted-facts initiateServer e = not-refused initiateServer e 1
   accepted-facts (serverFireAfter id n r u) e =
       let p = not-refused (serverFireAfter id n r u) e in (not-false (s .server) (p 1), by-ticks id n r (p 2) (p 3) (p 4))
@@ -229,6 +231,7 @@ module _ (words : List ℕ) (s : State) where
   no-rule (tick list) ok h = (ap not ok, (le-ltb (length list) (3 * length (s .slots)) h, tt))
   no-rule (setClock w list) ok h = (ap not ok, (le-ltb (length list) (3 * length (s .slots)) (h .0), (ap not (and-both (valid w) (ltb (w .ticks) (s .clock .perSecond)) (h .1) (lt-ltb (w .ticks) (s .clock .perSecond) (h .2))), tt)))
   no-rule getClock ok h = (ap not ok, (ap not h, tt))
+  no-rule nextDue ok h = (ap not h, tt)
   no-rule initiateServer ok h = (ap not ok, (h, tt))
   no-rule (serverFireAfter id n r u) ok h =
       (ap not ok, (ap not (h .0), (above n (h .1 .ticks), (above r (h .1 .routine), (is-known id (h .1 .names-one), tt)))))

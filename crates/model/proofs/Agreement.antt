@@ -12,7 +12,7 @@ use Rattle.calendar.specs.declared.WallTime.{WallTime}
 use Rattle.calendar.specs.Calendar.{secondsOf}
 use Rattle.calendar.proofs.Theorems.{seconds-in-range}
 use Rattle.model.specs.Status.{firstOf}
-use Rattle.model.specs.Calls.{Call, layOut, create, ident, cancel, delete, fireAfter, fireWhen, fireEvery, reset, ticksLeft, tick, setClock, getClock, initiateServer, serverFireAfter, serverFireWhen, serve}
+use Rattle.model.specs.Calls.{Call, layOut, create, ident, cancel, delete, fireAfter, fireWhen, fireEvery, reset, ticksLeft, tick, setClock, getClock, nextDue, initiateServer, serverFireAfter, serverFireWhen, serve}
 use Rattle.model.specs.Kinds.{Chain, ByTicks, ByDate, Queue, After, When, Every, ServerAfter, ServerWhen, kindAt, chainFor, forServer, lastMode}
 use Rattle.model.specs.State.{Link, State, free, slotAt, indexOf, Fired, listed}
 use Rattle.model.specs.Directives.{refusals, lowestFree, neverStarted, idled, effect, clockAt, movedBy}
@@ -45,7 +45,7 @@ module _ (s : State) (h : List Event) (v : Agrees s h) (f : WellFormed s) (words
         subst (λ (k : ℕ). lastStart k h ≡ some (startOf k o (x .interval) (x .routine) (x .userData))) (sym (p .0 .is)) (m .1),
       )
 
-  pub agrees-step : (c : Call) → firstOf (refusals words s c) ≡ 0 → Agrees (effect s c .state) (eventOf h c ∷ h)
+  pub agrees-step : (c : Call) → firstOf (refusals words s c) ≡ 0 → Agrees (effect words s c .state) (eventOf h c ∷ h)
   agrees-step (layOut n t) e = on-lay-out s h v n t
   agrees-step (create name) e =
       let i = lowestFree s in
@@ -83,7 +83,7 @@ module _ (s : State) (h : List Event) (v : Agrees s h) (f : WellFormed s) (words
       let i = indexOf id in
       let x = slotAt (s .slots) i in
       let last = reset-last id e in
-      subst (λ (q : Option Start). Agrees (effect s (reset id) .state) (changes id q ∷ h)) (sym (last .2))
+      subst (λ (q : Option Start). Agrees (effect words s (reset id) .state) (changes id q ∷ h)) (sym (last .2))
       (on-start s h v id i (p .0 .is) (p .0 .low) (p .0 .high) (lastMode (x .kind)) (x .interval) (x .routine) (x .userData) (rw (last .0) (last .1)))
   agrees-step (ticksLeft id) e = on-nothing s h v
   agrees-step (tick list) e = on-tick s h v f
@@ -91,6 +91,7 @@ module _ (s : State) (h : List Event) (v : Agrees s h) (f : WellFormed s) (words
       let p = accepted-facts words s (setClock w list) e in
       on-set-clock s h v f (secondsOf w) (seconds-in-range w (p .1)) (w .ticks) (p .2)
   agrees-step getClock e = on-nothing s h v
+  agrees-step nextDue e = on-nothing s h v
   agrees-step initiateServer e = on-initiate s h v
   agrees-step (serverFireAfter id n r u) e =
       let p = accepted-facts words s (serverFireAfter id n r u) e .1 in
@@ -127,7 +128,7 @@ module _ (s : State) (h : List Event) (v : Agrees s h) (f : WellFormed s) (words
   shown-front (w ∷ ws) [] e = absurd (cons≢nil e)
   shown-front (w ∷ ws) (x ∷ q) e = ap {B = List Fired} (λ (y : Waiting). y .shows ∷ []) (head-eq-of-cons-eq e)
 
-  pub lists-due : (c : Call) → firstOf (refusals words s c) ≡ 0 → map (listed (s .slots)) (effect s c .fired) ≡ listing h (eventOf h c) queue
+  pub lists-due : (c : Call) → firstOf (refusals words s c) ≡ 0 → map (listed (s .slots)) (effect words s c .fired) ≡ listing h (eventOf h c) queue
   lists-due (layOut n t) e = lists-none (eventOf h (layOut n t)) refl refl
   lists-due (create name) e = lists-none nothing refl refl
   lists-due (ident name) e = lists-none nothing refl refl
@@ -145,6 +146,7 @@ module _ (s : State) (h : List Event) (v : Agrees s h) (f : WellFormed s) (words
       set-clock-lists s h v f (secondsOf w) (seconds-in-range w (p .1)) (w .ticks) (p .2)
       ∙ sym (append-nil (map entry (firingIn ByTicks h moved ++ firingIn ByDate h moved)))
   lists-due getClock e = lists-none nothing refl refl
+  lists-due nextDue e = lists-none nothing refl refl
   lists-due initiateServer e = lists-none initiates refl refl
   lists-due (serverFireAfter id n r u) e = lists-none (eventOf h (serverFireAfter id n r u)) refl refl
   lists-due (serverFireWhen id w r u) e = lists-none (eventOf h (serverFireWhen id w r u)) refl refl
@@ -154,10 +156,10 @@ module _ (s : State) (h : List Event) (v : Agrees s h) (f : WellFormed s) (words
 
   -- a tick and a set clock list those that fire, a serve the front of the queue
   pub many-fire : (c : Call) → firstOf (refusals words s c) ≡ 0 → movesClock (eventOf h c) ≡ true
-      → length (effect s c .fired) ≡ length (firingIn ByTicks h (eventOf h c) ++ firingIn ByDate h (eventOf h c))
+      → length (effect words s c .fired) ≡ length (firingIn ByTicks h (eventOf h c) ++ firingIn ByDate h (eventOf h c))
   many-fire c e moving =
       let all-firing = firingIn ByTicks h (eventOf h c) ++ firingIn ByDate h (eventOf h c) in
-      sym (length-map (effect s c .fired) (listed (s .slots))) ∙ ap length (lists-due c e)
+      sym (length-map (effect words s c .fired) (listed (s .slots))) ∙ ap length (lists-due c e)
       ∙ ap (λ (n : ℕ). length (map entry all-firing ++ map entryOf (take n queue))) (none-handed (eventOf h c) moving)
       ∙ ap length (append-nil (map entry all-firing)) ∙ length-map all-firing entry
     where
@@ -171,9 +173,9 @@ module _ (s : State) (h : List Event) (v : Agrees s h) (f : WellFormed s) (words
       none-handed servesFront z = clash (sym z)
       none-handed nothing z = refl
 
-  pub many-served : (c : Call) → firstOf (refusals words s c) ≡ 0 → servesIn (eventOf h c) ≡ 1 → length (effect s c .fired) ≡ length (take 1 queue)
+  pub many-served : (c : Call) → firstOf (refusals words s c) ≡ 0 → servesIn (eventOf h c) ≡ 1 → length (effect words s c .fired) ≡ length (take 1 queue)
   many-served c e one =
-      sym (length-map (effect s c .fired) (listed (s .slots))) ∙ ap length (lists-due c e)
+      sym (length-map (effect words s c .fired) (listed (s .slots))) ∙ ap length (lists-due c e)
       ∙ ap₂ (λ (l : List Placed) (n : ℕ). length (map entry l ++ map entryOf (take n queue))) (none-fire h (eventOf h c) (still (eventOf h c) one)) one
       ∙ length-map (take 1 queue) entryOf
     where
@@ -188,12 +190,12 @@ module _ (s : State) (h : List Event) (v : Agrees s h) (f : WellFormed s) (words
       still nothing z = refl
 
   pub few-fire : (c : Call) → firstOf (refusals words s c) ≡ 0
-      → length (firingIn ByTicks h (eventOf h c) ++ firingIn ByDate h (eventOf h c)) ≤ length (effect s c .fired)
+      → length (firingIn ByTicks h (eventOf h c) ++ firingIn ByDate h (eventOf h c)) ≤ length (effect words s c .fired)
   few-fire c e =
       let all-firing = firingIn ByTicks h (eventOf h c) ++ firingIn ByDate h (eventOf h c) in
       omega (
         arith,
-        length-map (effect s c .fired) (listed (s .slots)),
+        length-map (effect words s c .fired) (listed (s .slots)),
         ap length (lists-due c e),
         length-append (map entry all-firing) (map entryOf (take (servesIn (eventOf h c)) queue)),
         length-map all-firing entry,
@@ -209,22 +211,23 @@ module _ (s : State) (h : List Event) (v : Agrees s h) (f : WellFormed s) (words
   none-fires e still = none-fire h e still
 
 -- a tick, a set clock and a serve answer how many they list
-pub counts : (s : State) (h : List Event) (c : Call) → (movesClock (eventOf h c) || eqb (servesIn (eventOf h c)) 1) ≡ true
-    → effect s c .answer ≡ length (effect s c .fired) ∷ []
-counts s h (layOut n t) e = clash (sym e)
-counts s h (create name) e = clash (sym e)
-counts s h (ident name) e = clash (sym e)
-counts s h (cancel id) e = clash (sym e)
-counts s h (delete id) e = clash (sym e)
-counts s h (fireAfter id n r u) e = clash (sym e)
-counts s h (fireWhen id w r u) e = clash (sym e)
-counts s h (fireEvery id n r u) e = clash (sym e)
-counts s h (reset id) e = clash (sym e)
-counts s h (ticksLeft id) e = clash (sym e)
-counts s h (tick list) e = refl
-counts s h (setClock w list) e = refl
-counts s h getClock e = clash (sym e)
-counts s h initiateServer e = clash (sym e)
-counts s h (serverFireAfter id n r u) e = clash (sym e)
-counts s h (serverFireWhen id w r u) e = clash (sym e)
-counts s h (serve list) e = refl
+pub counts : (words : List ℕ) (s : State) (h : List Event) (c : Call) → (movesClock (eventOf h c) || eqb (servesIn (eventOf h c)) 1) ≡ true
+    → effect words s c .answer ≡ length (effect words s c .fired) ∷ []
+counts words s h (layOut n t) e = clash (sym e)
+counts words s h (create name) e = clash (sym e)
+counts words s h (ident name) e = clash (sym e)
+counts words s h (cancel id) e = clash (sym e)
+counts words s h (delete id) e = clash (sym e)
+counts words s h (fireAfter id n r u) e = clash (sym e)
+counts words s h (fireWhen id w r u) e = clash (sym e)
+counts words s h (fireEvery id n r u) e = clash (sym e)
+counts words s h (reset id) e = clash (sym e)
+counts words s h (ticksLeft id) e = clash (sym e)
+counts words s h (tick list) e = refl
+counts words s h (setClock w list) e = refl
+counts words s h getClock e = clash (sym e)
+counts words s h nextDue e = clash (sym e)
+counts words s h initiateServer e = clash (sym e)
+counts words s h (serverFireAfter id n r u) e = clash (sym e)
+counts words s h (serverFireWhen id w r u) e = clash (sym e)
+counts words s h (serve list) e = refl

@@ -11,7 +11,7 @@ use lib.Dec.{eqb}
 use borrow.Author.Tests.{eq-eqb}
 use Rattle.calendar.specs.Calendar.{lastSecond}
 use Rattle.model.specs.Lists.{any, count, All}
-use Rattle.model.specs.Calls.{Call, layOut, create, ident, cancel, delete, fireAfter, fireWhen, fireEvery, reset, ticksLeft, tick, setClock, getClock, initiateServer, serverFireAfter, serverFireWhen, serve}
+use Rattle.model.specs.Calls.{Call, layOut, create, ident, cancel, delete, fireAfter, fireWhen, fireEvery, reset, ticksLeft, tick, setClock, getClock, nextDue, initiateServer, serverFireAfter, serverFireWhen, serve}
 use Rattle.model.specs.Kinds.{ServerAfter}
 use Rattle.model.specs.Outcome.{outcome}
 use Rattle.model.specs.History.{Start, startOf, Event, laidOutFor, changes, deletes, oneTick, clockSetTo, initiates, servesFront, nothing, eventOf, eventsOn, isTick, ticks, perSecond, clockAfter, ends, isQueued, Queues, IsQueue}
@@ -36,6 +36,7 @@ isTickCall (ticksLeft i) = false
 isTickCall (tick list) = true
 isTickCall (setClock w list) = false
 isTickCall getClock = false
+isTickCall nextDue = false
 isTickCall initiateServer = false
 isTickCall (serverFireAfter i n r u) = false
 isTickCall (serverFireWhen i w r u) = false
@@ -55,6 +56,7 @@ endsTimer id (ticksLeft i) = false
 endsTimer id (tick list) = false
 endsTimer id (setClock w list) = false
 endsTimer id getClock = false
+endsTimer id nextDue = false
 endsTimer id initiateServer = false
 endsTimer id (serverFireAfter i n r u) = eqb i id
 endsTimer id (serverFireWhen i w r u) = eqb i id
@@ -74,6 +76,7 @@ tick-is h (ticksLeft i) = refl
 tick-is h (tick list) = refl
 tick-is h (setClock w list) = refl
 tick-is h getClock = refl
+tick-is h nextDue = refl
 tick-is h initiateServer = refl
 tick-is h (serverFireAfter i n r u) = refl
 tick-is h (serverFireWhen i w r u) = refl
@@ -93,6 +96,7 @@ ends-is id h (ticksLeft i) = refl
 ends-is id h (tick list) = refl
 ends-is id h (setClock w list) = refl
 ends-is id h getClock = refl
+ends-is id h nextDue = refl
 ends-is id h initiateServer = refl
 ends-is id h (serverFireAfter i n r u) = refl
 ends-is id h (serverFireWhen i w r u) = refl

@@ -2,17 +2,17 @@
 use mathlib.Core.Path.{_≡_, refl, sym, ap, _∙_}
 use Prim.Native.Nat.{ℕ}
 use native.Mathlib.Omega.{arith}
-use mathlib.Core.Bool.{Bool, true, false}
+use mathlib.Core.Bool.{Bool, true, false, cond}
 use mathlib.Core.List.{List}
 use lib.ListN.{length}
 use Rattle.model.specs.Status.{firstOf}
-use Rattle.model.specs.Calls.{Call, layOut, isLayOut}
+use Rattle.model.specs.Calls.{Call, layOut, isLayOut, isNextDue}
 use Rattle.model.specs.State.{State}
 use Rattle.model.specs.Directives.{laidOut, refusals, effect}
 use Rattle.model.specs.Words.{writtenOver, read}
 use Rattle.model.specs.Sound.{sound}
 use Rattle.model.specs.Outcome.{Outcome, statusOn, outcome}
-use Rattle.model.proofs.ListLaws.{clash}
+use Rattle.model.proofs.ListLaws.{cases, clash}
 use Rattle.model.proofs.WellFormed.{Holds}
 use Rattle.model.proofs.ReadBack.{read-back, over-holds, written-holds}
 use Rattle.model.proofs.SoundHolds.{sound-holds, sound-well-formed}
@@ -20,7 +20,7 @@ use Rattle.model.proofs.HoldsSound.{well-formed-sound}
 use Rattle.model.proofs.Steps.{chained-laid, length-laid}
 use Rattle.model.proofs.AcceptedCalls.{accepted-facts}
 use Rattle.model.proofs.KeptWellFormed.{laid-well-formed, kept, slots-kept}
-use Rattle.model.proofs.OutcomeLaws.{each-call, status-is, outcome-accepted}
+use Rattle.model.proofs.OutcomeLaws.{each-call, next-due-is, status-is, outcome-accepted}
 
 -- ---- a lay out, on any slice
 
@@ -48,25 +48,32 @@ module _ (w : List ℕ) (n t : ℕ) (e : statusOn w (layOut n t) ≡ 0) where
 -- ---- any call, on a sound table
 
 module _ (t : List ℕ) (ok : sound t ≡ true) where
-  pub effect-holds : (c : Call) → statusOn t c ≡ 0 → Holds (writtenOver (effect (read t) c .state) t) (effect (read t) c .state)
-  effect-holds = each-call (λ c. statusOn t c ≡ 0 → Holds (writtenOver (effect (read t) c .state) t) (effect (read t) c .state))
+  pub effect-holds : (c : Call) → statusOn t c ≡ 0 → Holds (writtenOver (effect t (read t) c .state) t) (effect t (read t) c .state)
+  effect-holds = each-call (λ c. statusOn t c ≡ 0 → Holds (writtenOver (effect t (read t) c .state) t) (effect t (read t) c .state))
       (λ n k e. laid-holds t n k e)
       (λ c other e.
       let formed = kept (read t) (sound-well-formed t ok) t c (sym (status-is t c) ∙ e) in
-      over-holds t (read t) (effect (read t) c .state) (sound-holds t ok) (formed .chained) (slots-kept (read t) c other))
+      over-holds t (read t) (effect t (read t) c .state) (sound-holds t ok) (formed .chained) (slots-kept t (read t) c other))
 
   module _ (c : Call) (e : statusOn t c ≡ 0) where
-    pub effect-sound : sound (writtenOver (effect (read t) c .state) t) ≡ true
+    pub effect-sound : sound (writtenOver (effect t (read t) c .state) t) ≡ true
     effect-sound =
-        well-formed-sound (writtenOver (effect (read t) c .state) t) (effect (read t) c .state) (effect-holds c e)
+        well-formed-sound (writtenOver (effect t (read t) c .state) t) (effect t (read t) c .state) (effect-holds c e)
         (kept (read t) (sound-well-formed t ok) t c (sym (status-is t c) ∙ e))
 
-    pub effect-read : read (writtenOver (effect (read t) c .state) t) ≡ effect (read t) c .state
-    effect-read = read-back (writtenOver (effect (read t) c .state) t) (effect (read t) c .state) (effect-holds c e)
+    pub effect-read : read (writtenOver (effect t (read t) c .state) t) ≡ effect t (read t) c .state
+    effect-read = read-back (writtenOver (effect t (read t) c .state) t) (effect t (read t) c .state) (effect-holds c e)
 
     -- the table that the call leaves, and the state that it holds
-    pub table-left : outcome t c .table ≡ writtenOver (effect (read t) c .state) t
-    table-left = ap (λ (x : Outcome). x .table) (outcome-accepted t c e)
+    pub table-left : outcome t c .table ≡ writtenOver (effect t (read t) c .state) t
+    table-left = ap (λ (x : Outcome). x .table) (outcome-accepted t c e) ∙ over-words
+      where
+        -- next due leaves the words as they are, which on a sound table are those of its state
+        over-words : cond (isNextDue c) t (writtenOver (effect t (read t) c .state) t) ≡ writtenOver (effect t (read t) c .state) t
+        over-words =
+            cases (isNextDue c)
+            (λ is. rw is (sym (sound-holds t ok .is) ∙ ap (λ (d : Call). writtenOver (effect t (read t) d .state) t) (sym (next-due-is c is))))
+            (λ is. rw is)
 
-    pub state-left : read (outcome t c .table) ≡ effect (read t) c .state
+    pub state-left : read (outcome t c .table) ≡ effect t (read t) c .state
     state-left = ap read table-left ∙ effect-read

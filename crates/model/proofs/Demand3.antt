@@ -5,17 +5,17 @@ use Prim.Native.Nat.{ℕ, suc, _+_, _*_}
 use native.Mathlib.Omega.{arith}
 use mathlib.Core.Bool.{Bool, true, false, cond, _&&_, _||_}
 use mathlib.Core.Option.{Option, some}
-use mathlib.Core.List.{List, [], _∷_, _++_, map, reverse}
+use mathlib.Core.List.{List, [], _∷_, _++_, map, map-map, reverse}
 use lib.ListN.{length, take}
 use lib.Dec.{ltb, eqb}
 use borrow.Author.Tests.{eqb-true, eqb-false, eq-eqb}
 use Rattle.calendar.specs.declared.WallTime.{WallTime}
 use Rattle.calendar.specs.Calendar.{valid}
-use Rattle.model.specs.Lists.{keep, any, InOrder}
-use Rattle.model.specs.Calls.{Call, layOut, reset, ticksLeft, setClock, serve, lentTo}
+use Rattle.model.specs.Lists.{least, keep, any, InOrder}
+use Rattle.model.specs.Calls.{Call, layOut, reset, ticksLeft, setClock, nextDue, serve, lentTo}
 use Rattle.model.specs.Kinds.{Chain, ByTicks, ByDate, Queue, chainFor}
 use Rattle.model.specs.State.{State, waitAt, indexOf, names}
-use Rattle.model.specs.Directives.{laidOut, effect}
+use Rattle.model.specs.Directives.{firstWait, laidOut, effect}
 use Rattle.model.specs.Words.{first, along, links, read, slotCount, ticksPerSecond, previousOf}
 use Rattle.model.specs.Sound.{sound}
 use Rattle.model.specs.Outcome.{Outcome, statusOn, outcome, movement}
@@ -37,6 +37,7 @@ use Rattle.model.proofs.ClockReadings.{set-clock-status, refused-moves-
 use Rattle.model.proofs.CallTables.{laid-table, laid-sound, laid-read, effect-sound, table-left, state-left}
 use Rattle.model.proofs.Lasting.{none-laid, cancels-on, cancelled-on, lasts-on, anew-on}
 use Rattle.model.proofs.ListWords.{list-begins, table-size, words-beyond}
+use Rattle.model.proofs.NextDue.{firstBy, first-order, first-map, first-read, next-due-accepted}
 
 -- the table t is sound and its state agrees with the events h
 record SoundAndAgreeing (t : List ℕ) (h : List Event) : Type 0 where
@@ -93,8 +94,8 @@ module _ (t : List ℕ) (h : List Event) (g : SoundAndAgreeing t h) (c : Call) w
       let m = firingIn ByDate h e in
       let q = g .agrees .chain Queue in
       let o = outcome-accepted t c z in
-      let answer : (n : ℕ) → (movesClock e || eqb (servesIn e) 1) ≡ true → length (effect (read t) c .fired) ≡ n → outcome t c .answer ≡ n ∷ [] =
-      λ n some many. ap (λ (x : Outcome). x .answer) o ∙ counts (read t) h c some ∙ ap {B = List ℕ} (λ (n : ℕ). n ∷ []) many in
+      let answer : (n : ℕ) → (movesClock e || eqb (servesIn e) 1) ≡ true → length (effect t (read t) c .fired) ≡ n → outcome t c .answer ≡ n ∷ [] =
+      λ n some many. ap (λ (x : Outcome). x .answer) o ∙ counts t (read t) h c some ∙ ap {B = List ℕ} (λ (n : ℕ). n ∷ []) many in
       record {
         ticking = l;
         dated = m;
@@ -109,7 +110,7 @@ module _ (t : List ℕ) (h : List Event) (g : SoundAndAgreeing t h) (c : Call) w
             answer (length (take 1 (q .0))) (or-right (movesClock e) (eqb (servesIn e) 1) (eq-eqb (servesIn e) 1 one))
             (many-served (read t) h (g .agrees) f t c st one);
         fires-none = λ still. none-fires (read t) h (g .agrees) f t e still;
-        few = omega (arith, few-fire (read t) h (g .agrees) f t c st, bound (read t) f c, slots-length t);
+        few = omega (arith, few-fire (read t) h (g .agrees) f t c st, bound t (read t) f c, slots-length t);
       }
 
   restarts-now : statusOn t c ≡ 0 → (id : ℕ) → c ≡ reset id
@@ -140,6 +141,20 @@ module _ (t : List ℕ) (h : List Event) (g : SoundAndAgreeing t h) (c : Call) w
       subst (λ (d : Call). statusOn t d ≡ 0 → outcome t d .answer ≡ waitAt (indexOf id) (links ByTicks t) ∷ []) (sym is)
       (λ z. ap (λ (x : Outcome). x .answer) (outcome-accepted t (ticksLeft id) z)) e
 
+  next-now : c ≡ nextDue → (outcome t c .status ≡ 0) × (outcome t c .answer ≡ least (map ticksLeftOrDate (waitingIn ByTicks h)) ∷ [])
+  next-now is =
+      subst (λ (d : Call). (outcome t d .status ≡ 0) × (outcome t d .answer ≡ least (map ticksLeftOrDate (waitingIn ByTicks h)) ∷ [])) (sym is)
+      (let e = next-due-accepted t (g .is-sound) in (
+        outcome-status t nextDue ∙ e,
+        ap (λ (x : Outcome). x .answer) (outcome-accepted t nextDue e) ∙ ap {B = List ℕ} (λ (n : ℕ). n ∷ []) least-waiting,
+      ))
+    where
+      least-waiting : firstWait t ≡ least (map ticksLeftOrDate (waitingIn ByTicks h))
+      least-waiting =
+          first-read t (g .is-sound) ∙ sym (first-map (λ w. w .wait) (shown (read t .slots)) (read t .ticking))
+          ∙ ap (firstBy (λ w. w .wait)) (g .agrees .chain ByTicks) ∙ first-order (λ w. w .wait) (map waiting (waitingIn ByTicks h))
+          ∙ ap least (map-map (λ w. w .wait) waiting (waitingIn ByTicks h))
+
   answers-now : Answers t h c (eventOf h c)
   answers-now = record {
     lists = λ e. lists-now (sym (outcome-status t c) ∙ e);
@@ -156,6 +171,7 @@ module _ (t : List ℕ) (h : List Event) (g : SoundAndAgreeing t h) (c : Call) w
     stays = λ w list is e. refused-moves-none t w list (λ z. e (outcome-status t c ∙ ap (statusOn t) is ∙ z));
     reads = λ is e. ap (λ (d : Call). outcome t d .answer) is ∙ get-clock-reads t (ap (statusOn t) (sym is) ∙ sym (outcome-status t c) ∙ e);
     left = λ id is e. left-now (sym (outcome-status t c) ∙ e) id is;
+    next = next-now;
     lasts = λ e id. lasts-on t (g .is-sound) c (sym (outcome-status t c) ∙ e) id;
     anew = λ name is e. anew-on t (g .is-sound) name c is (sym (outcome-status t c) ∙ e);
     size = table-size t (g .is-sound) c;

@@ -10,7 +10,7 @@ use Rattle.calendar.specs.declared.WallTime.{WallTime}
 use Rattle.calendar.specs.Calendar.{monthsOf, years, valid, secondsOf, dateOf}
 use Rattle.model.specs.Lists.{keep, every}
 use Rattle.model.specs.Status.{when, firstOf, NotSound}
-use Rattle.model.specs.Calls.{Call, create, ident, cancel, delete, fireAfter, fireWhen, fireEvery, reset, ticksLeft, tick, setClock, getClock, initiateServer, serverFireAfter, serverFireWhen, serve}
+use Rattle.model.specs.Calls.{Call, create, ident, cancel, delete, fireAfter, fireWhen, fireEvery, reset, ticksLeft, tick, setClock, getClock, nextDue, initiateServer, serverFireAfter, serverFireWhen, serve}
 use Rattle.model.specs.State.{idBase}
 use Rattle.model.specs.Words.{kindOf, read}
 use Rattle.model.specs.Directives.{refusals}

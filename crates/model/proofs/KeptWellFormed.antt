@@ -13,7 +13,7 @@ use Rattle.calendar.specs.Calendar.{secondsOf, lastSecond}
 use Rattle.calendar.proofs.Theorems.{seconds-in-range}
 use Rattle.model.specs.Lists.{keep, place, All}
 use Rattle.model.specs.Status.{firstOf}
-use Rattle.model.specs.Calls.{Call, layOut, create, ident, cancel, delete, fireAfter, fireWhen, fireEvery, reset, ticksLeft, tick, setClock, getClock, initiateServer, serverFireAfter, serverFireWhen, serve, isLayOut}
+use Rattle.model.specs.Calls.{Call, layOut, create, ident, cancel, delete, fireAfter, fireWhen, fireEvery, reset, ticksLeft, tick, setClock, getClock, nextDue, initiateServer, serverFireAfter, serverFireWhen, serve, isLayOut}
 use Rattle.model.specs.Kinds.{Chain, ByTicks, ByDate, Queue, Mode, After, When, Every, ServerAfter, ServerWhen, kindAt, chainFor, waitingKind, sameChain, waitsIn, forServer, lastMode}
 use Rattle.model.specs.State.{Slot, Link, Clock, State, chainOf, withChain, withClock, free, slotAt, putAt, without, indexOf}
 use Rattle.model.specs.Directives.{refusals, lowestFree, laidOut, stored, neverStarted, stopped, idled, waitingAs, started, firedAll, due, off, fire, withoutServer, front, handedOut, initiated, nearer, clockAt, clockStep, effect}
@@ -194,8 +194,8 @@ step-formed c h = record {
 }
 
 module _ (s : State) (h : WellFormed s) where
-  formed-ticked : (list : List ℕ) → WellFormed (effect s (tick list) .state)
-  formed-ticked list =
+  formed-ticked : (words list : List ℕ) → WellFormed (effect words s (tick list) .state)
+  formed-ticked words list =
       formed-fired (withClock (fire ByTicks 0 (nearer s)) (clockStep (s .clock)))
       (chained-with-clock (fire ByTicks 0 (nearer s)) (clockStep (s .clock)) (chained-fire ByTicks 0 (nearer s) near))
       (omega (arith, length-fire ByTicks 0 (nearer s), h .some-slot))
@@ -260,7 +260,7 @@ module _ (s : State) (h : WellFormed s) where
   has-name id is = h .shape (indexOf id) .named (pos-of-ne-zero (is .alive))
 
   module _ (words : List ℕ) where
-    pub kept : (c : Call) → firstOf (refusals words s c) ≡ 0 → WellFormed (effect s c .state)
+    pub kept : (c : Call) → firstOf (refusals words s c) ≡ 0 → WellFormed (effect words s c .state)
     kept (layOut n t) e =
         let p = accepted-facts words s (layOut n t) e in
         laid-well-formed n t (p .slots-low) (p .slots-high) (p .ticks-low) (p .ticks-high)
@@ -302,10 +302,11 @@ module _ (s : State) (h : WellFormed s) where
         (h .shape (indexOf id) .used (timed-started (x .kind) (p .1))) (rw by-ticks some) (rw by-ticks some)
         (λ q. h .shape (indexOf id) .by-server (again-server (x .kind) (omega (arith, h .shape (indexOf id) .kinds)) q))
     kept (ticksLeft id) e = h
-    kept (tick list) e = formed-ticked list
+    kept (tick list) e = formed-ticked words list
     kept (setClock w list) e =
         let p = accepted-facts words s (setClock w list) e in formed-clock-set (secondsOf w) (seconds-in-range w (p .1)) (w .ticks) (p .2)
     kept getClock e = h
+    kept nextDue e = h
     kept initiateServer e = formed-initiated
     kept (serverFireAfter id n r u) e =
         let q = accepted-facts words s (serverFireAfter id n r u) e in
@@ -322,9 +323,9 @@ module _ (s : State) (h : WellFormed s) where
 
 -- ---- what no call changes, and how many fire
 
-module _ (s : State) where
+module _ (words : List ℕ) (s : State) where
   -- every call but lay out leaves as many slots as there were
-  pub slots-kept : (c : Call) → isLayOut c ≡ false → length (effect s c .state .slots) ≡ length (s .slots)
+  pub slots-kept : (c : Call) → isLayOut c ≡ false → length (effect words s c .state .slots) ≡ length (s .slots)
   slots-kept (layOut n t) l = clash l
   slots-kept (create name) l = length-stored s (lowestFree s) (neverStarted name)
   slots-kept (ident name) l = refl
@@ -342,13 +343,14 @@ module _ (s : State) where
       length-fire ByDate (clock .second) (withClock (fire ByTicks 0 (nearer s)) clock) ∙ length-fire ByTicks 0 (nearer s)
   slots-kept (setClock w list) l = length-fire ByDate (secondsOf w) (withClock s (clockAt (s .clock) (secondsOf w) (w .ticks)))
   slots-kept getClock l = refl
+  slots-kept nextDue l = refl
   slots-kept initiateServer l = refl
   slots-kept (serverFireAfter id n r u) l = length-started ServerAfter s (indexOf id) n r u
   slots-kept (serverFireWhen id w r u) l = length-started ServerWhen s (indexOf id) (secondsOf w) r u
   slots-kept (serve list) l = length-firedAll (front s) (s .slots)
 
   -- no call fires more timers than there are slots
-  pub bound : WellFormed s → (c : Call) → length (effect s c .fired) ≤ length (s .slots)
+  pub bound : WellFormed s → (c : Call) → length (effect words s c .fired) ≤ length (s .slots)
   bound h (layOut n t) = zero-le
   bound h (create name) = zero-le
   bound h (ident name) = zero-le
@@ -381,6 +383,7 @@ module _ (s : State) where
     length-keep (λ w. leb (w .wait) (secondsOf date)) (s .dated),
   )
   bound h getClock = zero-le
+  bound h nextDue = zero-le
   bound h initiateServer = zero-le
   bound h (serverFireAfter id n r u) = zero-le
   bound h (serverFireWhen id w r u) = zero-le

@@ -9,7 +9,7 @@ use lib.ListN.{length, replicate}
 use lib.Dec.{leb, ltb, eqb}
 use borrow.Author.Tests.{eqb-true, eqb-false, eq-eqb, ne-eqb}
 use Rattle.calendar.specs.Calendar.{allOf, secondsOf}
-use Rattle.model.specs.Calls.{Call, layOut, create, ident, cancel, delete, fireAfter, fireWhen, fireEvery, reset, ticksLeft, tick, setClock, getClock, initiateServer, serverFireAfter, serverFireWhen, serve}
+use Rattle.model.specs.Calls.{Call, layOut, create, ident, cancel, delete, fireAfter, fireWhen, fireEvery, reset, ticksLeft, tick, setClock, getClock, nextDue, initiateServer, serverFireAfter, serverFireWhen, serve}
 use Rattle.model.specs.Kinds.{Kind, Mode, After, When, Every, ServerAfter, ServerWhen, Chain, ByTicks, ByDate, Queue, kindAt, waitingKind, linked, lastMode}
 use Rattle.model.specs.State.{Slot, Link, State, withClock, free, slotAt, putAt, idBase, indexOf, names}
 use Rattle.model.specs.Directives.{lowestFree, laidOut, stored, neverStarted, stopped, idled, waitingAs, started, fired, firedAll, due, fire, front, handedOut, nearer, clockAt, clockStep, effect}
@@ -127,7 +127,7 @@ module _ (s : State) where
 -- ---- every call
 
 lasts-step : (words : List ℕ) (s : State) (c : Call) → Accepted words s c → (id : ℕ)
-    → names (effect s c .state) id ≡ lastsAfter c (firstNumber (effect s c .answer)) id (names s id)
+    → names (effect words s c .state) id ≡ lastsAfter c (firstNumber (effect words s c .answer)) id (names s id)
 lasts-step words s (layOut n t) p id = none-laid n t id
 lasts-step words s (create name) p id = created s name (p .1) id
 lasts-step words s (ident name) p id = refl
@@ -143,18 +143,19 @@ lasts-step words s (fireEvery d n r u) p id =
     same-names s (started Every s (indexOf d) n r u) (start-free s Every d n r u (p .names-one)) id
 lasts-step words s (reset d) p id =
     let x = slotAt (s .slots) (indexOf d) in
-    same-names s (effect s (reset d) .state) (start-free s (lastMode (x .kind)) d (x .interval) (x .routine) (x .userData) (p .0)) id
+    same-names s (effect words s (reset d) .state) (start-free s (lastMode (x .kind)) d (x .interval) (x .routine) (x .userData) (p .0)) id
 lasts-step words s (ticksLeft d) p id = refl
 lasts-step words s (tick list) p id =
     let clock = clockStep (s .clock) in
     let ticked = fire ByTicks 0 (nearer s) in
-    same-names s (effect s (tick list) .state)
+    same-names s (effect words s (tick list) .state)
     (then-free (s .slots) (ticked .slots) (fire ByDate (clock .second) (withClock ticked clock) .slots)
     (fire-free ByTicks 0 (nearer s)) (fire-free ByDate (clock .second) (withClock ticked clock))) id
 lasts-step words s (setClock w list) p id =
-    same-names s (effect s (setClock w list) .state)
+    same-names s (effect words s (setClock w list) .state)
     (fire-free ByDate (secondsOf w) (withClock s (clockAt (s .clock) (secondsOf w) (w .ticks)))) id
 lasts-step words s getClock p id = refl
+lasts-step words s nextDue p id = refl
 lasts-step words s initiateServer p id = refl
 lasts-step words s (serverFireAfter d n r u) p id =
     same-names s (started ServerAfter s (indexOf d) n r u) (start-free s ServerAfter d n r u (p .1 .names-one)) id
@@ -172,7 +173,7 @@ module _ (t : List ℕ) (ok : sound t ≡ true) where
   facts : (c : Call) → statusOn t c ≡ 0 → Accepted t (read t) c
   facts c e = accepted-facts t (read t) c (sym (status-is t c) ∙ e)
 
-  answer-is : (c : Call) → statusOn t c ≡ 0 → outcome t c .answer ≡ effect (read t) c .answer
+  answer-is : (c : Call) → statusOn t c ≡ 0 → outcome t c .answer ≡ effect t (read t) c .answer
   answer-is c e = ap (λ (o : Outcome). o .answer) (outcome-accepted t c e)
 
   pub lasts-on : (c : Call) → statusOn t c ≡ 0 → (id : ℕ)

@@ -1,5 +1,5 @@
 -- The proofs, in reading order: laws of lists, slots and chains; the words of a table and its soundness; what each call keeps; what a list of
--- calls means; demand 3 and its readings; the worked cases.
+-- calls means; next due's rules and what it answers; demand 3 and its readings; the worked cases.
 pub mod ListLaws
 pub mod StatusLaws
 pub mod Order
@@ -31,6 +31,7 @@ pub mod OutcomeLaws
 pub mod ClockReadings
 pub mod CallTables
 pub mod Lasting
+pub mod NextDue
 pub mod ListWords
 pub mod Demand3
 pub mod Readings
@@ -41,3 +42,4 @@ pub mod WorkedCases
 pub mod ClockCases
 pub mod ServerCases
 pub mod EveryKind
+pub mod NextDueCases

@@ -9,7 +9,7 @@ use lib.ListN.{length, getD, drop, length-map, length-append, length-take, lengt
 use lib.Seq.{getD-drop, getD-append-add}
 use lib.Dec.{eqb}
 use borrow.Author.Tests.{eqb-true, eqb-false}
-use Rattle.model.specs.Calls.{Call, layOut, create, ident, cancel, delete, fireAfter, fireWhen, fireEvery, reset, ticksLeft, tick, setClock, getClock, initiateServer, serverFireAfter, serverFireWhen, serve, lentTo}
+use Rattle.model.specs.Calls.{Call, layOut, create, ident, cancel, delete, fireAfter, fireWhen, fireEvery, reset, ticksLeft, tick, setClock, getClock, nextDue, initiateServer, serverFireAfter, serverFireWhen, serve, lentTo}
 use Rattle.model.specs.State.{State, Fired, listed}
 use Rattle.model.specs.Directives.{effect}
 use Rattle.model.specs.Words.{word, read, slotCount}
@@ -63,7 +63,7 @@ written-begins fs lent fits = record {
 
 -- ---- the list of an accepted call
 
-fits : (words : List ℕ) (s : State) → WellFormed s → (c : Call) → Accepted words s c → 3 * length (effect s c .fired) ≤ length (lentTo c)
+fits : (words : List ℕ) (s : State) → WellFormed s → (c : Call) → Accepted words s c → 3 * length (effect words s c .fired) ≤ length (lentTo c)
 fits words s h (layOut n t) p = zero-le
 fits words s h (create name) p = zero-le
 fits words s h (ident name) p = zero-le
@@ -74,35 +74,36 @@ fits words s h (fireWhen id w r u) p = zero-le
 fits words s h (fireEvery id n r u) p = zero-le
 fits words s h (reset id) p = zero-le
 fits words s h (ticksLeft id) p = zero-le
-fits words s h (tick list) p = omega (arith, p, bound s h (tick list))
-fits words s h (setClock w list) p = omega (arith, p .0, bound s h (setClock w list))
+fits words s h (tick list) p = omega (arith, p, bound words s h (tick list))
+fits words s h (setClock w list) p = omega (arith, p .0, bound words s h (setClock w list))
 fits words s h getClock p = zero-le
+fits words s h nextDue p = zero-le
 fits words s h initiateServer p = zero-le
 fits words s h (serverFireAfter id n r u) p = zero-le
 fits words s h (serverFireWhen id w r u) p = zero-le
 fits words s h (serve list) p = omega (arith, p .1, length-take 1 (s .queue))
 
 module _ (t : List ℕ) (ok : sound t ≡ true) (c : Call) where
-  pub list-begins : statusOn t c ≡ 0 → Begins (outcome t c .list) (lentTo c) (map (listed (read t .slots)) (effect (read t) c .fired))
+  pub list-begins : statusOn t c ≡ 0 → Begins (outcome t c .list) (lentTo c) (map (listed (read t .slots)) (effect t (read t) c .fired))
   list-begins e =
-      let fired = effect (read t) c .fired in
+      let fired = effect t (read t) c .fired in
       let p = fits t (read t) (sound-well-formed t ok) c (accepted-facts t (read t) c (sym (status-is t c) ∙ e)) in
       subst (λ (l : List ℕ). Begins l (lentTo c) (map (listed (read t .slots)) fired)) (sym (ap (λ (o : Outcome). o .list) (outcome-accepted t c e)))
       (written-begins (map (listed (read t .slots)) fired) (lentTo c) (omega (arith, p, length-map fired (listed (read t .slots)))))
 
   -- ---- the slice
 
-  long-enough : statusOn t c ≡ 0 → 10 + 8 * length (effect (read t) c .state .slots) ≤ length t
-  long-enough = each-call (λ c. statusOn t c ≡ 0 → 10 + 8 * length (effect (read t) c .state .slots) ≤ length t)
+  long-enough : statusOn t c ≡ 0 → 10 + 8 * length (effect t (read t) c .state .slots) ≤ length t
+  long-enough = each-call (λ c. statusOn t c ≡ 0 → 10 + 8 * length (effect t (read t) c .state .slots) ≤ length t)
       (λ n k e. omega (arith, length-laid n k, accepted-facts t (read t) (layOut n k) (sym (status-is t (layOut n k)) ∙ e) .fits))
-      (λ c other e. omega (arith, slots-kept (read t) c other, sound-holds t ok .long)) c
+      (λ c other e. omega (arith, slots-kept t (read t) c other, sound-holds t ok .long)) c
 
   pub table-size : length (outcome t c .table) ≡ length t
   table-size =
       cases (eqb (statusOn t c) 0)
       (λ e.
       let z = eqb-true (statusOn t c) 0 e in
-      let s = effect (read t) c .state in
+      let s = effect t (read t) c .state in
       ap length (table-left t ok c z) ∙ length-over s t (long-enough z))
       (λ e. ap (λ (o : Outcome). length (o .table)) (outcome-refused t c (eqb-false (statusOn t c) 0 e)))
 
@@ -111,7 +112,7 @@ module _ (t : List ℕ) (ok : sound t ≡ true) (c : Call) where
       cases (eqb (statusOn t c) 0)
       (λ e p.
       let z = eqb-true (statusOn t c) 0 e in
-      let s = effect (read t) c .state in
+      let s = effect t (read t) c .state in
       let is = table-left t ok c z in
       ap (λ (u : List ℕ). word u m) is ∙ past-over s t m (omega (arith, p, ap (λ (u : List ℕ). slotCount u) is)))
       (λ e p. ap (λ (o : Outcome). word (o .table) m) (outcome-refused t c (eqb-false (statusOn t c) 0 e)))

@@ -1,16 +1,16 @@
 -- The outcome of a call from its status: where no rule applies it is what the call does, where one does it is that refusal. Assumes nothing.
 use mathlib.Core.Path.{_≡_, refl, sym, ap, _∙_}
 use Prim.Native.Nat.{ℕ}
-use mathlib.Core.Bool.{Bool, false, cond}
+use mathlib.Core.Bool.{Bool, true, false, cond}
 use mathlib.Core.List.{List}
 use lib.Dec.{eqb}
 use borrow.Author.Tests.{eqb-true, eqb-false, eq-eqb, ne-eqb}
 use Rattle.model.specs.Status.{Status, numberOf, firstOf}
-use Rattle.model.specs.Calls.{Call, layOut, create, ident, cancel, delete, fireAfter, fireWhen, fireEvery, reset, ticksLeft, tick, setClock, getClock, initiateServer, serverFireAfter, serverFireWhen, serve, isLayOut}
+use Rattle.model.specs.Calls.{Call, layOut, create, ident, cancel, delete, fireAfter, fireWhen, fireEvery, reset, ticksLeft, tick, setClock, getClock, nextDue, initiateServer, serverFireAfter, serverFireWhen, serve, isLayOut, isNextDue}
 use Rattle.model.specs.Directives.{refusals}
 use Rattle.model.specs.Words.{read}
 use Rattle.model.specs.Outcome.{Outcome, statusOn, refused, accepted, outcome}
-use Rattle.model.proofs.ListLaws.{cases}
+use Rattle.model.proofs.ListLaws.{cases, clash}
 use Rattle.model.proofs.StatusLaws.{not-zero}
 
 -- what holds of a lay out and of all that are none
@@ -28,10 +28,31 @@ each-call P lay other (ticksLeft id) = other (ticksLeft id) refl
 each-call P lay other (tick list) = other (tick list) refl
 each-call P lay other (setClock w list) = other (setClock w list) refl
 each-call P lay other getClock = other getClock refl
+each-call P lay other nextDue = other nextDue refl
 each-call P lay other initiateServer = other initiateServer refl
 each-call P lay other (serverFireAfter id n r u) = other (serverFireAfter id n r u) refl
 each-call P lay other (serverFireWhen id w r u) = other (serverFireWhen id w r u) refl
 each-call P lay other (serve list) = other (serve list) refl
+
+pub next-due-is : (c : Call) → isNextDue c ≡ true → c ≡ nextDue
+next-due-is (layOut n t) e = clash (sym e)
+next-due-is (create name) e = clash (sym e)
+next-due-is (ident name) e = clash (sym e)
+next-due-is (cancel id) e = clash (sym e)
+next-due-is (delete id) e = clash (sym e)
+next-due-is (fireAfter id n r u) e = clash (sym e)
+next-due-is (fireWhen id w r u) e = clash (sym e)
+next-due-is (fireEvery id n r u) e = clash (sym e)
+next-due-is (reset id) e = clash (sym e)
+next-due-is (ticksLeft id) e = clash (sym e)
+next-due-is (tick list) e = clash (sym e)
+next-due-is (setClock w list) e = clash (sym e)
+next-due-is getClock e = clash (sym e)
+next-due-is nextDue e = refl
+next-due-is initiateServer e = clash (sym e)
+next-due-is (serverFireAfter id n r u) e = clash (sym e)
+next-due-is (serverFireWhen id w r u) e = clash (sym e)
+next-due-is (serve list) e = clash (sym e)
 
 pub status-is : (t : List ℕ) (c : Call) → statusOn t c ≡ firstOf (refusals t (read t) c)
 unfolding statusOn

@@ -363,7 +363,7 @@ pub set-clock-keeps-ticks : (t : List ℕ) → sound t ≡ true → (w : WallTim
     → links ByTicks (outcome t (setClock w list) .table) ≡ links ByTicks t
 set-clock-keeps-ticks t ok w list e =
     let z : statusOn t (setClock w list) ≡ 0 = sym (outcome-status t (setClock w list)) ∙ e in
-    let s = effect (read t) (setClock w list) .state in
+    let s = effect t (read t) (setClock w list) .state in
     let clock = clockAt (read t .clock) (secondsOf w) (w .ticks) in
     let now = withClock (read t) clock in
     ap (λ (o : Outcome). links ByTicks (o .table)) (outcome-accepted t (setClock w list) z)

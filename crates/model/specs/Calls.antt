@@ -26,6 +26,7 @@ pub data Call : Type 0 where
   tick : List ℕ → Call
   setClock : WallTime → List ℕ → Call
   getClock : Call
+  nextDue : Call
   -- the timer server: initiate; starts as fire after and fire when; serve, with the lent list
   initiateServer : Call
   serverFireAfter : ℕ → ℕ → ℕ → ℕ → Call
@@ -47,14 +48,18 @@ callNumber (tick list) = 10
 callNumber (setClock w list) = 11
 callNumber getClock = 12
 callNumber (fireEvery id n r u) = 13
+callNumber nextDue = 14
 callNumber initiateServer = 15
 callNumber (serverFireAfter id n r u) = 16
 callNumber (serverFireWhen id w r u) = 17
 callNumber (serve list) = 18
 
--- lay out takes any slice of words, where every other call wants a sound table
+-- lay out takes any slice of words, and next due any in which it finds what it reads; every other call wants a sound table
 abbrev pub isLayOut : Call → Bool
 isLayOut c = eqb (callNumber c) 1
+
+abbrev pub isNextDue : Call → Bool
+isNextDue c = eqb (callNumber c) 14
 
 -- the list that is lent to a call; no words where it takes none
 abbrev pub lentTo : Call → List ℕ
@@ -71,6 +76,7 @@ lentTo (ticksLeft id) = []
 lentTo (tick list) = list
 lentTo (setClock w list) = list
 lentTo getClock = []
+lentTo nextDue = []
 lentTo initiateServer = []
 lentTo (serverFireAfter id n r u) = []
 lentTo (serverFireWhen id w r u) = []

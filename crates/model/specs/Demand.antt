@@ -9,8 +9,8 @@ use lib.IntN.{pos, _-ℤ_}
 use lib.Dec.{ltb, eqb}
 use Rattle.calendar.specs.declared.WallTime.{WallTime}
 use Rattle.calendar.specs.Calendar.{valid, dateOf}
-use Rattle.model.specs.Lists.{keep, any, count, InOrder}
-use Rattle.model.specs.Calls.{Call, layOut, create, cancel, reset, ticksLeft, tick, setClock, getClock, serve, lentTo, answerCount}
+use Rattle.model.specs.Lists.{least, keep, any, count, InOrder}
+use Rattle.model.specs.Calls.{Call, layOut, create, cancel, reset, ticksLeft, tick, setClock, getClock, nextDue, serve, lentTo, answerCount}
 use Rattle.model.specs.Kinds.{Chain, ByTicks, ByDate, Queue, kindAt, chainFor}
 use Rattle.model.specs.State.{Slot, Link, slotAt, waitAt, indexOf, names, Fired, listed}
 use Rattle.model.specs.Words.{first, sumOf, word, along, links, read, slotCount, ticksPerSecond, clockSet, seconds, ticksInto, serverInitiated, previousOf}
@@ -119,6 +119,9 @@ pub record Answers (t : List ℕ) (es : List Event) (c : Call) (e : Event) : Typ
   pub reads : c ≡ getClock → outcome t c .status ≡ 0 → outcome t c .answer ≡ numbers (dateOf (seconds t)) (ticksInto t)
   -- Ticks left are those in the interval chain; 0 for a timer that is not there.
   pub left : (id : ℕ) → c ≡ ticksLeft id → outcome t c .status ≡ 0 → outcome t c .answer ≡ waitAt (indexOf id) (links ByTicks t) ∷ []
+  -- Next due is accepted, and answers the least ticks left over all waiting interval timers, 0 if none.
+  pub next : c ≡ nextDue
+      → (outcome t c .status ≡ 0) × (outcome t c .answer ≡ least (map ticksLeftOrDate (keep (inChain ByTicks) (keep waits (starts es)))) ∷ [])
   -- An id names a timer as long as it lasts; a create answers one that named none.
   pub lasts : outcome t c .status ≡ 0 → (id : ℕ)
       → names (read (outcome t c .table)) id ≡ lastsAfter c (firstNumber (outcome t c .answer)) id (names (read t) id)

@@ -1,7 +1,7 @@
 -- Document 01, "Status numbers" and "What each call does": for each call, in its order, when it is refused and what it does.
 -- Assumes nothing: these are definitions.
 use Prim.Native.Nat.{ℕ, suc, _+_, _-_, _*_}
-use mathlib.Core.Bool.{Bool, true, false, cond, not, _&&_}
+use mathlib.Core.Bool.{Bool, true, false, cond, not, _&&_, _||_}
 use mathlib.Core.Option.{Option, none, some}
 use mathlib.Core.List.{List, [], _∷_, _++_, map}
 use lib.ListN.{length, take, drop, replicate}
@@ -11,8 +11,9 @@ use Rattle.calendar.specs.declared.WallTime.{WallTime}
 use Rattle.calendar.specs.Calendar.{allOf, valid, secondsOf, lastSecond, dateOf}
 use Rattle.model.specs.Lists.{keep, place}
 use Rattle.model.specs.Status.{Refusal, when, InvalidName, InvalidId, TooMany, InvalidSize, InvalidAddress, InvalidNumber, NotDefined, IncorrectState, InvalidClock, NotSound, ListTooShort}
-use Rattle.model.specs.Calls.{Call, layOut, create, ident, cancel, delete, fireAfter, fireWhen, fireEvery, reset, ticksLeft, tick, setClock, getClock, initiateServer, serverFireAfter, serverFireWhen, serve}
-use Rattle.model.specs.Kinds.{Chain, ByTicks, ByDate, Queue, Mode, After, When, Every, ServerAfter, ServerWhen, kindAt, chainFor, waitingKind, intervalIn, linked, lastByTicks, forServer, lastMode}
+use Rattle.model.specs.Calls.{Call, layOut, create, ident, cancel, delete, fireAfter, fireWhen, fireEvery, reset, ticksLeft, tick, setClock, getClock, nextDue, initiateServer, serverFireAfter, serverFireWhen, serve}
+use Rattle.model.specs.Kinds.{Chain, ByTicks, ByDate, Queue, Mode, After, When, Every, ServerAfter, ServerWhen, kindAt, chainFor, waitingKind, intervalIn, waitsIn, linked, lastByTicks, forServer, lastMode}
+use Rattle.model.specs.Words.{slotCount, firstTicking, kindOf, waitOf}
 use Rattle.model.specs.Sound.{sound}
 use Rattle.model.specs.State.{Slot, Link, Clock, State, chainOf, withChain, withClock, free, slotAt, putAt, lowest, without, waitAt, idBase, indexOf, names}
 
@@ -64,6 +65,22 @@ startRules s id n r = when InvalidNumber (eqb n 0) ∷ when InvalidAddress (eqb 
 abbrev pub dateRules : State → ℕ → WallTime → ℕ → List Refusal
 dateRules s id d r =
     when NotDefined (not (s .clock .isSet)) ∷ when InvalidAddress (eqb r 0) ∷ when InvalidClock (notAhead s d) ∷ noSuchId s id ∷ []
+
+-- ---- next due, which reads only the header and one slot
+
+-- Refused exactly if the slice is shorter than 10 words or than 10 + 8N, N is outside 1 to 255, or word 5 is above N or names a slot that is not
+-- waiting for ticks or whose wait is 0.
+abbrev pub firstTests : List ℕ → List Bool
+firstTests w =
+    leb 10 (length w) ∷ leb (10 + 8 * slotCount w) (length w) ∷ leb 1 (slotCount w) ∷ leb (slotCount w) 255 ∷ leb (firstTicking w) (slotCount w)
+    ∷ (eqb (firstTicking w) 0 || waitsIn ByTicks (kindOf w (firstTicking w))) ∷ (eqb (firstTicking w) 0 || ltb 0 (waitOf w (firstTicking w))) ∷ []
+
+abbrev pub noFirst : List ℕ → Refusal
+noFirst w = when NotSound (not (allOf (firstTests w)))
+
+-- the ticks until the first interval timer, 0 if there is none
+abbrev pub firstWait : List ℕ → ℕ
+firstWait w = cond (eqb (firstTicking w) 0) 0 (waitOf w (firstTicking w))
 
 -- ---- the parts of the calls' work
 
@@ -224,96 +241,101 @@ clockRead s = record { state = s; answer = numbers (dateOf (s .clock .second)) (
 
 -- ---- the calls
 
--- A call: its rules, in their order, from the words of the table and the state that they hold; and what it does where none applies.
+-- A call: its rules, in their order, and what it does where none applies; both from the words of the table and the state that they hold.
 pub record Directive : Type 0 where
   pub rules : List ℕ → State → List Refusal
-  pub does : State → Effect
+  pub does : List ℕ → State → Effect
 
 abbrev pub directive : Call → Directive
 -- 10, 8
 directive (layOut n t) = record {
   rules = λ w s. when InvalidNumber (not (allOf (limits n t))) ∷ when InvalidSize (ltb (length w) (10 + 8 * n)) ∷ [];
-  does = λ s. leaves (laidOut n t) 0;
+  does = λ w s. leaves (laidOut n t) 0;
 }
 -- Answers the id of the lowest free slot, which becomes kind 1. 3, 5
 directive (create name) = record {
   rules = λ w s. unsound w ∷ when InvalidName (eqb name 0) ∷ when TooMany (eqb (lowestFree s) 0) ∷ [];
-  does = λ s. leaves (stored s (lowestFree s) (neverStarted name)) (idBase + lowestFree s);
+  does = λ w s. leaves (stored s (lowestFree s) (neverStarted name)) (idBase + lowestFree s);
 }
 -- Id of the lowest slot with that name. 3
 directive (ident name) = record {
   rules = λ w s. unsound w ∷ when InvalidName (eqb name 0) ∷ when InvalidName (eqb (lowestNamed s name) 0) ∷ [];
-  does = λ s. leaves s (idBase + lowestNamed s name);
+  does = λ w s. leaves s (idBase + lowestNamed s name);
 }
 -- Cancel of a timer that is neither waiting nor queued: 14, after 4.
 directive (cancel id) = record {
   rules = λ w s. unsound w ∷ noSuchId s id ∷ nothingToCancel s id ∷ [];
-  does = λ s. leaves (stopped s (indexOf id) (idled (slotAt (s .slots) (indexOf id)))) 0;
+  does = λ w s. leaves (stopped s (indexOf id) (idled (slotAt (s .slots) (indexOf id)))) 0;
 }
 -- Cancelled if waiting or queued, then the slot is free and all zero.
 directive (delete id) = record {
   rules = λ w s. unsound w ∷ noSuchId s id ∷ [];
-  does = λ s. leaves (stopped s (indexOf id) free) 0;
+  does = λ w s. leaves (stopped s (indexOf id) free) 0;
 }
 directive (fireAfter id n r u) = record {
   rules = λ w s. unsound w ∷ startRules s id n r;
-  does = λ s. leaves (started After s (indexOf id) n r u) 0;
+  does = λ w s. leaves (started After s (indexOf id) n r u) 0;
 }
 directive (fireWhen id d r u) = record {
   rules = λ w s. unsound w ∷ dateRules s id d r;
-  does = λ s. leaves (started When s (indexOf id) (secondsOf d) r u) 0;
+  does = λ w s. leaves (started When s (indexOf id) (secondsOf d) r u) 0;
 }
 -- Like fire after, but the timer fires every n ticks.
 directive (fireEvery id n r u) = record {
   rules = λ w s. unsound w ∷ startRules s id n r;
-  does = λ s. leaves (started Every s (indexOf id) n r u) 0;
+  does = λ w s. leaves (started Every s (indexOf id) n r u) 0;
 }
 -- Start again with the stored interval, routine and data, as it was last started. 4, 11
 directive (reset id) = record {
   rules = λ w s. unsound w ∷ noSuchId s id ∷ when NotDefined (not (lastByTicks (slotAt (s .slots) (indexOf id) .kind))) ∷ [];
-  does = λ s.
+  does = λ w s.
       let x = slotAt (s .slots) (indexOf id) in
       leaves (started (lastMode (x .kind)) s (indexOf id) (x .interval) (x .routine) (x .userData)) 0;
 }
 -- For kinds 4, 6 and 10, which alone are in the interval chain; for any other kind 0.
 directive (ticksLeft id) = record {
   rules = λ w s. unsound w ∷ noSuchId s id ∷ [];
-  does = λ s. leaves s (waitAt (indexOf id) (s .ticking));
+  does = λ w s. leaves s (waitAt (indexOf id) (s .ticking));
 }
 directive (tick list) = record {
   rules = λ w s. unsound w ∷ when ListTooShort (isShort s list) ∷ [];
-  does = λ s. ticked s;
+  does = λ w s. ticked s;
 }
 directive (setClock d list) = record {
   rules = λ w s. unsound w ∷ when ListTooShort (isShort s list) ∷ when InvalidClock (notSettable s d) ∷ [];
-  does = λ s. clockMoved s (secondsOf d) (d .ticks);
+  does = λ w s. clockMoved s (secondsOf d) (d .ticks);
 }
 directive getClock = record {
   rules = λ w s. unsound w ∷ when NotDefined (not (s .clock .isSet)) ∷ [];
-  does = λ s. clockRead s;
+  does = λ w s. clockRead s;
+}
+-- Reads only the header and one slot, and has a 100 of its own.
+directive nextDue = record {
+  rules = λ w s. noFirst w ∷ [];
+  does = λ w s. leaves s (firstWait w);
 }
 directive initiateServer = record {
   rules = λ w s. unsound w ∷ alreadyInitiated s ∷ [];
-  does = λ s. leaves (initiated s) 0;
+  does = λ w s. leaves (initiated s) 0;
 }
 -- They take arguments and refuse as fire after and fire when do.
 directive (serverFireAfter id n r u) = record {
   rules = λ w s. unsound w ∷ notInitiated s ∷ startRules s id n r;
-  does = λ s. leaves (started ServerAfter s (indexOf id) n r u) 0;
+  does = λ w s. leaves (started ServerAfter s (indexOf id) n r u) 0;
 }
 directive (serverFireWhen id d r u) = record {
   rules = λ w s. unsound w ∷ notInitiated s ∷ dateRules s id d r;
-  does = λ s. leaves (started ServerWhen s (indexOf id) (secondsOf d) r u) 0;
+  does = λ w s. leaves (started ServerWhen s (indexOf id) (secondsOf d) r u) 0;
 }
 -- Needs three words of list. Hands out the front's three words and answers 1, or 0 if the queue is empty.
 directive (serve list) = record {
   rules = λ w s. unsound w ∷ when ListTooShort (ltb (length list) 3) ∷ notInitiated s ∷ [];
-  does = λ s. firing (handedOut s) (front s);
+  does = λ w s. firing (handedOut s) (front s);
 }
 
 -- a call's rules, and what it does
 abbrev pub refusals : List ℕ → State → Call → List Refusal
 refusals w s c = directive c .rules w s
 
-abbrev pub effect : State → Call → Effect
-effect s c = directive c .does s
+abbrev pub effect : List ℕ → State → Call → Effect
+effect w s c = directive c .does w s

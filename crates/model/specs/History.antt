@@ -9,7 +9,7 @@ use lib.ListN.{drop}
 use lib.Dec.{leb, eqb}
 use Rattle.calendar.specs.Calendar.{secondsOf, lastSecond}
 use Rattle.model.specs.Lists.{keep, any, count, InOrder}
-use Rattle.model.specs.Calls.{Call, layOut, create, ident, cancel, delete, fireAfter, fireWhen, fireEvery, reset, ticksLeft, tick, setClock, getClock, initiateServer, serverFireAfter, serverFireWhen, serve}
+use Rattle.model.specs.Calls.{Call, layOut, create, ident, cancel, delete, fireAfter, fireWhen, fireEvery, reset, ticksLeft, tick, setClock, getClock, nextDue, initiateServer, serverFireAfter, serverFireWhen, serve}
 use Rattle.model.specs.Kinds.{Chain, ByTicks, ByDate, Mode, After, When, Every, ServerAfter, ServerWhen, chainFor, isPeriodic, isServer, sameChain, intervalIn}
 use Rattle.model.specs.State.{Fired}
 
@@ -78,6 +78,7 @@ eventOf before (ticksLeft id) = nothing
 eventOf before (tick list) = oneTick
 eventOf before (setClock w list) = clockSetTo (secondsOf w) (w .ticks)
 eventOf before getClock = nothing
+eventOf before nextDue = nothing
 eventOf before initiateServer = initiates
 eventOf before (serverFireAfter id n r u) = changes id (some (startOf id ServerAfter n r u))
 eventOf before (serverFireWhen id w r u) = changes id (some (startOf id ServerWhen (secondsOf w) r u))
@@ -104,6 +105,7 @@ lastsAfter (ticksLeft i) answer id before = before
 lastsAfter (tick list) answer id before = before
 lastsAfter (setClock w list) answer id before = before
 lastsAfter getClock answer id before = before
+lastsAfter nextDue answer id before = before
 lastsAfter initiateServer answer id before = before
 lastsAfter (serverFireAfter i n r u) answer id before = before
 lastsAfter (serverFireWhen i w r u) answer id before = before

@@ -1,5 +1,5 @@
 -- Lists with Boolean tests, and the order "by a number, the earlier first among equals". Assumes nothing: these are definitions.
-use Prim.Native.Nat.{ℕ, zero, suc, _≤_}
+use Prim.Native.Nat.{ℕ, zero, suc, _≤_, min}
 use mathlib.Core.Bool.{Bool, true, false, cond, _&&_, _||_}
 use mathlib.Core.List.{List, [], _∷_}
 use mathlib.Core.Path.{_≡_}
@@ -8,6 +8,12 @@ use lib.Dec.{leb, eqb}
 -- a new element with the number m goes behind one with the number n
 abbrev pub goesBehind : ℕ → ℕ → Bool
 goesBehind m n = leb n m
+
+-- the least of some numbers, 0 if there are none
+abbrev pub least : List ℕ → ℕ
+least [] = 0
+least (n ∷ []) = n
+least (n ∷ m ∷ ms) = min n (least (m ∷ ms))
 
 -- p holds of n numbers from i on
 abbrev pub allUp : (ℕ → Bool) → ℕ → ℕ → Bool

@@ -9,7 +9,7 @@ use lib.Dec.{eqb}
 use Rattle.model.specs.Status.{firstOf}
 use Rattle.calendar.specs.declared.WallTime.{WallTime}
 use Rattle.calendar.specs.Calendar.{secondsOf}
-use Rattle.model.specs.Calls.{Call, setClock, lentTo, answerCount}
+use Rattle.model.specs.Calls.{Call, setClock, isNextDue, lentTo, answerCount}
 use Rattle.model.specs.State.{Fired, listed}
 use Rattle.model.specs.Directives.{refusals, effect, clockAt, movedBy}
 use Rattle.model.specs.Words.{writtenOver, read}
@@ -41,11 +41,11 @@ entryWords (f ∷ fs) = f .id ∷ f .routine ∷ f .userData ∷ entryWords fs
 abbrev pub written : List Fired → List ℕ → List ℕ
 written fs list = entryWords fs ++ drop (length (entryWords fs)) list
 
--- where no rule applies, what the call does
+-- where no rule applies, what the call does. Next due, which may find what it reads in a table that is not sound, leaves every word.
 abbrev pub accepted : List ℕ → Call → Outcome
 accepted t c =
-    let e = effect (read t) c in
-    outcomeOf 0 (e .answer) (writtenOver (e .state) t) (written (map (listed (read t .slots)) (e .fired)) (lentTo c))
+    let e = effect t (read t) c in
+    outcomeOf 0 (e .answer) (cond (isNextDue c) t (writtenOver (e .state) t)) (written (map (listed (read t .slots)) (e .fired)) (lentTo c))
 
 -- Accepted means status 0; any other status is a refusal.
 unfoldable pub outcome : List ℕ → Call → Outcome

@@ -59,7 +59,7 @@ module _ {t : List ℕ} {id i : ℕ} (at : Named t id i) where
 
   pub reset-is : {m : Mode} {kind n r u : ℕ} {v : List ℕ} → kind ≡ kindOf t i → m ≡ lastMode kind
       → v ≡ writtenOver (started m (read t) i n r u) t → n ≡ intervalOf t i → r ≡ routineOf t i → u ≡ dataOf t i
-      → v ≡ writtenOver (effect (read t) (reset id) .state) t
+      → v ≡ writtenOver (effect t (read t) (reset id) .state) t
   reset-is k mode e a b c =
       e
       ∙ (λ j. writtenOver (started ((mode ∙ ap lastMode k) j) (read t) (at .index j) (a j) (b j) (c j)) t)

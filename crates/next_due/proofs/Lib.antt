@@ -1,0 +1,2 @@
+-- The tests of next due.
+pub mod FirstTests
