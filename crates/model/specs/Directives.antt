@@ -1,6 +1,6 @@
 -- Document 01, "Status numbers" and "What each call does": for each call, in its order, when it is refused and what it does.
 -- Assumes nothing: these are definitions.
-use Prim.Native.Nat.{ℕ, suc, _+_, _-_, _*_}
+use Prim.Native.Nat.{ℕ, zero, suc, _+_, _-_, _*_}
 use mathlib.Core.Bool.{Bool, true, false, cond, not, _&&_}
 use mathlib.Core.Option.{Option, none, some}
 use mathlib.Core.List.{List, [], _∷_, _++_, map}
@@ -194,12 +194,35 @@ firing s links = record { state = s; answer = length links ∷ []; fired = links
 
 -- Those at zero fire in chain order; then, at the clock's new second, dated timers. Where the second did not go up none are due, since
 -- all dates are above it.
+abbrev pub tickedOnce : State → State
+tickedOnce s = let clock = clockStep (s .clock) in fire ByDate (clock .second) (withClock (fire ByTicks 0 (nearer s)) clock)
+
+abbrev pub dueInTick : State → List Link
+dueInTick s =
+    let clock = clockStep (s .clock) in due ByTicks 0 (nearer s) ++ due ByDate (clock .second) (withClock (fire ByTicks 0 (nearer s)) clock)
+
 abbrev pub ticked : State → Effect
-ticked s =
-    let near = nearer s in
-    let clock = clockStep (s .clock) in
-    let later = withClock (fire ByTicks 0 near) clock in
-    firing (fire ByDate (clock .second) later) (withoutServer (s .slots) (due ByTicks 0 near ++ due ByDate (clock .second) later))
+ticked s = firing (tickedOnce s) (withoutServer (s .slots) (dueInTick s))
+
+-- Leap: it stops after the first tick that fires or queues a timer, else after k. What its ticks leave, how many they are, and the timers that
+-- fire, all of them in the last one.
+pub record Leapt : Type 0 where
+  pub state : State
+  pub done : ℕ
+  pub fired : List Link
+
+-- no timer is due in a tick
+abbrev pub isQuiet : State → Bool
+isQuiet s = eqb (length (dueInTick s)) 0
+
+abbrev pub oneMore : Leapt → Leapt
+oneMore l = record { state = l .state; done = suc (l .done); fired = l .fired }
+
+abbrev pub leapt : ℕ → State → Leapt
+leapt zero s = record { state = s; done = 0; fired = [] }
+leapt (suc k) s =
+    cond (isQuiet s) (oneMore (leapt k (tickedOnce s)))
+    (record { state = tickedOnce s; done = 1; fired = withoutServer (s .slots) (dueInTick s) })
 
 -- Set clock: seconds as given, the ticks field in word 4, clock set. Dated timers at or before the new second fire now. Interval timers don't
 -- change. A clock set back moves no date.
