@@ -19,9 +19,7 @@ use answers::Setting;
 use calendar::Date;
 use calendar::Instant;
 use calendar::WallTime;
-use firing::come_nearer;
 use firing::fire;
-use firing::step_clock;
 use going_on::ENTRY;
 use model::Chain;
 use model::Status;
@@ -53,14 +51,8 @@ pub fn tick(table: &mut [u32], fired: &mut [u32]) -> Answer
     let Answer::Done(end) = opened else {
         return opened;
     };
-    come_nearer(table);
-    let ticking = fire(table, fired, Chain::ByTicks, 0, 0, end);
-    step_clock(table);
-    let second = table[SECONDS];
-    let listed = ticking.count;
-    let last = ticking.end;
-    let dated = fire(table, fired, Chain::ByDate, second, listed, last);
-    Answer::Done(dated.count)
+    let count = leaping::tick(table, fired, end);
+    Answer::Done(count)
 }
 
 // A second, so many ticks into it, counted in ticks.
