@@ -19,6 +19,7 @@ pub mod Searches
 pub mod GoingOn
 pub mod Steps
 pub mod AcceptedCalls
+pub mod LeapLaws
 pub mod KeptWellFormed
 pub mod HistoryLaws
 pub mod ChainLaws
@@ -32,6 +33,7 @@ pub mod ClockReadings
 pub mod CallTables
 pub mod Lasting
 pub mod ListWords
+pub mod LeapWords
 pub mod Demand3
 pub mod Readings
 pub mod CallReadings

@@ -11,7 +11,7 @@ use Rattle.calendar.specs.declared.WallTime.{WallTime}
 use Rattle.calendar.specs.Calendar.{allOf, valid, secondsOf, lastSecond, dateOf}
 use Rattle.model.specs.Lists.{keep, place}
 use Rattle.model.specs.Status.{Refusal, when, InvalidName, InvalidId, TooMany, InvalidSize, InvalidAddress, InvalidNumber, NotDefined, IncorrectState, InvalidClock, NotSound, ListTooShort}
-use Rattle.model.specs.Calls.{Call, layOut, create, ident, cancel, delete, fireAfter, fireWhen, fireEvery, reset, ticksLeft, tick, setClock, getClock, initiateServer, serverFireAfter, serverFireWhen, serve}
+use Rattle.model.specs.Calls.{Call, layOut, create, ident, cancel, delete, fireAfter, fireWhen, fireEvery, reset, ticksLeft, tick, setClock, getClock, initiateServer, serverFireAfter, serverFireWhen, serve, leap}
 use Rattle.model.specs.Kinds.{Chain, ByTicks, ByDate, Queue, Mode, After, When, Every, ServerAfter, ServerWhen, kindAt, chainFor, waitingKind, intervalIn, linked, lastByTicks, forServer, lastMode}
 use Rattle.model.specs.Sound.{sound}
 use Rattle.model.specs.State.{Slot, Link, Clock, State, chainOf, withChain, withClock, free, slotAt, putAt, lowest, without, waitAt, idBase, indexOf, names}
@@ -34,6 +34,10 @@ notAhead s w = not (valid w && ltb (s .clock .second) (secondsOf w))
 
 abbrev pub notSettable : State → WallTime → Bool
 notSettable s w = not (valid w && ltb (w .ticks) (s .clock .perSecond))
+
+-- A leap is by 0 to 1,000,000 ticks.
+abbrev pub mostLeap : ℕ
+mostLeap = 1000000
 
 -- N is 1 to 255 and T 1 to 1,000
 abbrev pub limits : ℕ → ℕ → List Bool
@@ -224,6 +228,10 @@ leapt (suc k) s =
     cond (isQuiet s) (oneMore (leapt k (tickedOnce s)))
     (record { state = tickedOnce s; done = 1; fired = withoutServer (s .slots) (dueInTick s) })
 
+-- It answers the count fired and, beside it, the ticks done.
+abbrev pub leaping : Leapt → Effect
+leaping l = record { state = l .state; answer = length (l .fired) ∷ l .done ∷ []; fired = l .fired }
+
 -- Set clock: seconds as given, the ticks field in word 4, clock set. Dated timers at or before the new second fire now. Interval timers don't
 -- change. A clock set back moves no date.
 abbrev pub clockMoved : State → ℕ → ℕ → Effect
@@ -332,6 +340,11 @@ directive (serverFireWhen id d r u) = record {
 directive (serve list) = record {
   rules = λ w s. unsound w ∷ when ListTooShort (ltb (length list) 3) ∷ notInitiated s ∷ [];
   does = λ s. firing (handedOut s) (front s);
+}
+-- More than 1,000,000 is 10, after 100 and, whatever k, tick's 101.
+directive (leap k list) = record {
+  rules = λ w s. unsound w ∷ when ListTooShort (isShort s list) ∷ when InvalidNumber (ltb mostLeap k) ∷ [];
+  does = λ s. leaping (leapt k s);
 }
 
 -- a call's rules, and what it does

@@ -9,3 +9,4 @@ pub mod Directives
 pub mod Outcome
 pub mod History
 pub mod Demand
+pub mod Leap
