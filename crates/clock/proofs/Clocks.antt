@@ -1,5 +1,5 @@
 -- The clock of a sound table, as the calls that ask for it find it. Assumes nothing.
-use mathlib.Core.Path.{_≡_, refl, sym, ap, _∙_, subst}
+use mathlib.Core.Path.{_≡_, refl, sym, ap, ap₂, _∙_, subst}
 use Prim.Native.Nat.{ℕ, _≤_, _<_}
 use native.Mathlib.Omega.{arith}
 use mathlib.Core.Bool.{Bool, true, false, not, _&&_}
@@ -21,7 +21,7 @@ use Rattle.model.specs.declared.Chain.{Chain}
 use Rattle.model.specs.declared.Chain.the-variants.{ByDate}
 use Rattle.model.specs.Lists.{All}
 use Rattle.model.specs.Status.{numberOf}
-use Rattle.model.specs.Calls.{tick, setClock}
+use Rattle.model.specs.Calls.{tick, setClock, leap}
 use Rattle.model.specs.Directives.{notSettable, clockAt, ticked, movedBy, numbers}
 use Rattle.model.specs.Words.{read, ticksPerSecond, seconds, ticksInto}
 use Rattle.model.specs.Sound.{sound}
@@ -32,7 +32,7 @@ use Rattle.model.proofs.OutcomeLaws.{outcome-status}
 use Rattle.model.proofs.SoundHolds.{sound-header}
 use Rattle.firing.specs.Lists.{Leaves}
 use Rattle.firing.proofs.Ticks.{movedTo}
-use Rattle.leaping.specs.Leaps.{Ready}
+use Rattle.leaping.specs.Leaps.{Ready, Leaps}
 use Rattle.answers.specs.declared.Answer.{Answer}
 use Rattle.answers.specs.declared.Answer.the-variants.{Refused}
 use Rattle.answers.specs.Answers.{statusOf, answerOf}
@@ -121,3 +121,10 @@ lent-ready t list l = record { ok = l .ok; long = l .long; last = l .last }
 pub tick-done : (t list : List ℕ) {m : ℕ} {u list′ : List ℕ} → All (λ r. r .given ≡ false) (rules t (tick list))
     → Leaves t list (ticked (read t)) m u list′ → outcomeOf 0 (m ∷ []) u list′ ≡ outcome t (tick list)
 tick-done t list {m} {u} {list′} none l = done t (tick list) (m ∷ []) u list′ none (l .answer) (l .table) (l .entries)
+
+-- ---- leap
+
+pub leap-done : (t list : List ℕ) {k m d : ℕ} {u list′ : List ℕ} → All (λ r. r .given ≡ false) (rules t (leap k list))
+    → Leaps t list k m d u list′ → outcomeOf 0 (m ∷ d ∷ []) u list′ ≡ outcome t (leap k list)
+leap-done t list {k} {m} {d} {u} {list′} none l =
+    done t (leap k list) (m ∷ d ∷ []) u list′ none (ap₂ {C = List ℕ} (λ (a b : ℕ). a ∷ b ∷ []) (l .fired) (l .ticks)) (l .table) (l .entries)

@@ -2,14 +2,13 @@
 -- Assumes nothing.
 use mathlib.Core.Path.{_≡_, refl, sym, ap, ap₂, _∙_, subst}
 use mathlib.Core.Logic.{_≢_}
-use Prim.Native.Nat.{ℕ, _-_, _*_, _≤_}
+use Prim.Native.Nat.{ℕ, _-_, _≤_}
 use native.Mathlib.Omega.{arith}
 use mathlib.Core.List.{List, map, head-eq-of-cons-eq}
 use lib.ListN.{length}
 use Rattle.model.specs.Lists.{All}
-use Rattle.model.specs.Calls.{tick}
 use Rattle.model.specs.State.{State, listed}
-use Rattle.model.specs.Directives.{clockStep, ticked, Leapt, leapt}
+use Rattle.model.specs.Directives.{mostLeap, clockStep, ticked, Leapt, leapt}
 use Rattle.model.specs.Words.{read, writtenOver}
 use Rattle.model.specs.Outcome.{written}
 use Rattle.model.proofs.ListLaws.{all-map}
@@ -17,7 +16,7 @@ use Rattle.model.proofs.WellFormed.{WellFormed, Holds}
 use Rattle.model.proofs.ReadBack.{slots-length, read-back, over-over, over-holds}
 use Rattle.model.proofs.SoundHolds.{sound-holds, sound-well-formed}
 use Rattle.model.proofs.HoldsSound.{well-formed-sound}
-use Rattle.model.proofs.KeptWellFormed.{slots-kept}
+use Rattle.model.proofs.KeptWellFormed.{tick-slots}
 use Rattle.links.specs.Places.{lastSlot}
 use Rattle.firing.specs.Lists.{Leaves}
 use Rattle.firing.proofs.Ticks.{tickedTo}
@@ -43,7 +42,7 @@ module _ (t list : List ℕ) {end : ℕ} (r : Ready t list end) (k : ℕ) where
         entries = ap (λ (x : Leapt). written (map (listed (read t .slots)) (x .fired)) list) l;
       }
 
-  module _ (few : k ≤ 1000000) (some : k ≢ 0) {d : ℕ} (is : d ≡ untilDue k (read t)) where
+  module _ (few : k ≤ mostLeap) (some : k ≢ 0) {d : ℕ} (is : d ≡ untilDue k (read t)) where
     abbrev s : State
     s = read t
 
@@ -54,7 +53,7 @@ module _ (t list : List ℕ) {end : ℕ} (r : Ready t list end) (k : ℕ) where
     pub done-low : 1 ≤ d
     done-low = until .low
 
-    pub skip-few : d - 1 ≤ 1000000
+    pub skip-few : d - 1 ≤ mostLeap
     skip-few = omega (arith, until .high)
 
     pub skip-far : All (λ w. d - 1 ≤ w .wait) (s .ticking)
@@ -86,7 +85,7 @@ module _ (t list : List ℕ) {end : ℕ} (r : Ready t list end) (k : ℕ) where
           let whole = sym (leaps-at-once k d s until) in
           record {
             table = l .table ∙ ap₂ (λ (z : State) (w : List ℕ). writtenOver (ticked z .state) w) here e
-                ∙ over-over s′ (ticked s′ .state) t (slots-kept s′ (tick list) refl) ∙ ap (λ (x : Leapt). writtenOver (x .state) t) whole;
+                ∙ over-over s′ (ticked s′ .state) t (tick-slots s′) ∙ ap (λ (x : Leapt). writtenOver (x .state) t) whole;
             fired = head-eq-of-cons-eq (l .answer) ∙ ap (λ (z : State). length (ticked z .fired)) here ∙ ap (λ (x : Leapt). length (x .fired)) whole;
             ticks = ap (λ (x : Leapt). x .done) whole;
             entries = l .entries ∙ ap (λ (z : State). written (map (listed (z .slots)) (ticked z .fired)) list) here

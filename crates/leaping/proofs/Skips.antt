@@ -3,7 +3,7 @@
 use mathlib.Core.Path.{_≡_, refl, sym, ap, ap₂, _∙_, subst}
 use Prim.Native.Nat.{ℕ, zero, suc, _+_, _-_, _≤_, _<_}
 use native.Mathlib.Omega.{arith}
-use mathlib.Core.Bool.{Bool, true, false, cond}
+use mathlib.Core.Bool.{true}
 use mathlib.Core.List.{List, [], _∷_, _++_, map}
 use lib.ListN.{length}
 use lib.Dec.{leb, ltb, eqb}
@@ -13,11 +13,12 @@ use Rattle.model.specs.declared.Chain.{Chain}
 use Rattle.model.specs.declared.Chain.the-variants.{ByTicks, ByDate, Queue}
 use Rattle.model.specs.Lists.{keep, All}
 use Rattle.model.specs.State.{Link, Clock, State, chainOf, withChain, withClock}
-use Rattle.model.specs.Directives.{firedAll, goOn, due, fire, withoutServer, nearer, closer, clockStep, tickedOnce, dueInTick, Leapt, isQuiet, oneMore, leapt}
+use Rattle.model.specs.Directives.{firedAll, goOn, due, fire, nearer, closer, clockStep, tickedOnce, dueInTick, isQuiet, oneMore, leapt}
 use Rattle.model.proofs.ListLaws.{cases, all-map, all-mapped, all-zip, keep-all, keep-none}
 use Rattle.model.proofs.ClockSteps.{clock-unset, clock-isSet, clock-perSecond, clock-into, clock-last}
 use Rattle.model.proofs.WellFormed.{Chained, WellFormed}
 use Rattle.model.proofs.Steps.{chained-nearer, chained-with-clock}
+use Rattle.model.proofs.LeapLaws.{leapt-on, further}
 use Rattle.firing.specs.Nearer.{closerBy, nearerBy}
 use Rattle.leaping.specs.Leaps.{clockOn, skipped}
 use Rattle.leaping.proofs.ClockRuns.{step-inside, step-over, step-end, clock-stands}
@@ -150,21 +151,6 @@ module _ (s : State) (ticks : All (λ w. 1 < w .wait) (s .ticking)) (dates : All
       ∙ none-fire ByDate (later .second) (withClock (nearer s) later) dates
 
 -- ---- a leap over m of them
-
--- a tick as the last one of a leap
-abbrev pub lastTick : State → Leapt
-lastTick s = record { state = tickedOnce s; done = 1; fired = withoutServer (s .slots) (dueInTick s) }
-
-module _ (k : ℕ) (s : State) where
-  pub leapt-on : isQuiet s ≡ true → leapt (suc k) s ≡ oneMore (leapt k (tickedOnce s))
-  leapt-on e = ap (λ (b : Bool). cond b (oneMore (leapt k (tickedOnce s))) (lastTick s)) e
-
-  pub leapt-stops : isQuiet s ≡ false → leapt (suc k) s ≡ lastTick s
-  leapt-stops e = ap (λ (b : Bool). cond b (oneMore (leapt k (tickedOnce s))) (lastTick s)) e
-
--- that many ticks more
-abbrev pub further : ℕ → Leapt → Leapt
-further n l = record { state = l .state; done = n + l .done; fired = l .fired }
 
 pub leapt-skips : (m j : ℕ) (s : State) → All (λ w. m < w .wait) (s .ticking) → All (λ w. clockOn m (s .clock) .second < w .wait) (s .dated)
     → leapt (m + j) s ≡ further m (leapt j (skipped m s))

@@ -8,20 +8,21 @@ use mathlib.Core.Bool.{Bool, true, false}
 use mathlib.Core.List.{List, [], _∷_, map, cons≢nil}
 use lib.ListN.{length, length-append}
 use lib.Dec.{leb, ltb}
-use borrow.Author.Tests.{ltb-true, ltb-false, le-leb, eqb-true, ne-eqb}
+use borrow.Author.Tests.{ltb-true, ltb-false, le-leb, ne-eqb}
 use Rattle.calendar.specs.Calendar.{lastSecond}
 use Rattle.model.specs.declared.Chain.the-variants.{ByTicks, ByDate}
 use Rattle.model.specs.Lists.{keep, All, Sorted}
-use Rattle.model.specs.State.{Link, Clock, State, withClock}
+use Rattle.model.specs.State.{Link, Clock, State}
 use Rattle.model.specs.Directives.{due, fire, withoutServer, nearer, closer, clockStep, tickedOnce, dueInTick, isQuiet, leapt}
 use Rattle.model.proofs.ListLaws.{cases, all-map}
 use Rattle.model.proofs.KindLaws.{again-not-dated}
 use Rattle.model.proofs.WellFormed.{Chained, WellFormed}
 use Rattle.model.proofs.Steps.{fire-elsewhere, chained-nearer}
+use Rattle.model.proofs.LeapLaws.{leapt-on, leapt-stops, quiet-fired, further}
 use Rattle.firing.specs.Nearer.{closerBy}
 use Rattle.leaping.specs.Leaps.{clockOn, skipped, untilTicks, untilDate, untilDue}
 use Rattle.leaping.proofs.ClockRuns.{clock-runs, clock-step-last}
-use Rattle.leaping.proofs.Skips.{chained-skipped, well-formed-skipped, lastTick, leapt-on, leapt-stops, further, leapt-skips}
+use Rattle.leaping.proofs.Skips.{chained-skipped, well-formed-skipped, leapt-skips}
 
 -- ---- a date
 
@@ -183,18 +184,12 @@ module _ (k : ℕ) (some : 1 ≤ k) (s : State) (f : WellFormed s) where
 
 -- ---- a leap
 
-no-links : (l : List Link) → length l ≡ 0 → l ≡ []
-no-links [] e = refl
-no-links (w ∷ ws) e = absurd (omega arith)
-
 -- its last tick: it fires or queues a timer, or there is none behind it
-one-tick : (j : ℕ) (s : State) → (0 < j → isQuiet s ≡ false) → leapt (suc j) s ≡ lastTick s
+one-tick : (j : ℕ) (s : State) → (0 < j → isQuiet s ≡ false)
+    → leapt (suc j) s ≡ record { state = tickedOnce s; done = 1; fired = withoutServer (s .slots) (dueInTick s) }
 one-tick zero s e =
     cases (isQuiet s)
-    (λ q.
-    leapt-on 0 s q
-    ∙ ap (λ (l : List Link). record { state = tickedOnce s; done = 1; fired = withoutServer (s .slots) l })
-    (sym (no-links (dueInTick s) (eqb-true (length (dueInTick s)) 0 q))))
+    (λ q. leapt-on 0 s q ∙ ap (λ (l : List Link). record { state = tickedOnce s; done = 1; fired = l }) (sym (quiet-fired s q)))
     (λ q. leapt-stops 0 s q)
 one-tick (suc j) s e = leapt-stops (suc j) s (e (omega arith))
 

@@ -5,7 +5,7 @@ ghost use mathlib.Core.Bool.{true};
 ghost use Prim.Native.Nat.{_-_, _*_, _<_, _≤_};
 ghost use Rattle.model.specs.Lists.{All};
 ghost use Rattle.model.specs.State.{withClock};
-ghost use Rattle.model.specs.Directives.{ticked};
+ghost use Rattle.model.specs.Directives.{mostLeap, ticked};
 ghost use Rattle.model.specs.Words.{read, writtenOver};
 ghost use Rattle.model.specs.Sound.{sound};
 ghost use Rattle.firing.specs.Lists.{Leaves};
@@ -41,7 +41,7 @@ pub fn tick(t: &mut [u32], list: &mut [u32], end: u32) -> u32
 
 // The clock goes on by many ticks at once, if it is set, and stands still at its last one.
 fn run_clock(t: &mut [u32], ticks: u32)
-    requires { ⌜ (sound (now t) ≡ true) × (ticks ≤ 1000000) ⌝ }
+    requires { ⌜ (sound (now t) ≡ true) × (ticks ≤ mostLeap) ⌝ }
     ensures { λ _. ⌜ now (t .exit) ≡ writtenOver (withClock (read (now (t .entry))) (clockOn ticks (read (now (t .entry)) .clock))) (now (t .entry)) ⌝ }
 {
     if t[CLOCK_SET] != 1 {
@@ -61,7 +61,7 @@ fn run_clock(t: &mut [u32], ticks: u32)
 
 // Ticks in which no timer is due, at once: all interval timers come so many ticks nearer, and the clock goes on.
 pub fn skip(t: &mut [u32], ticks: u32)
-    requires { ⌜ (sound (now t) ≡ true) × (ticks ≤ 1000000) × All (λ w. ticks ≤ w .wait) (read (now t) .ticking) ⌝ }
+    requires { ⌜ (sound (now t) ≡ true) × (ticks ≤ mostLeap) × All (λ w. ticks ≤ w .wait) (read (now t) .ticking) ⌝ }
     ensures { λ _. ⌜ now (t .exit) ≡ writtenOver (skipped ticks (read (now (t .entry)))) (now (t .entry)) ⌝ }
 {
     run_clock(t, ticks);
@@ -126,23 +126,26 @@ pub fn until_due(t: &[u32], most: u32) -> u32
 }
 
 // How many fired, and how many ticks were done.
-pub struct Progress {
+pub struct Gone {
     pub count: u32,
     pub done: u32,
 }
 
+// The most ticks of a leap.
+pub const MOST_LEAP: u32 = 1000000;
+
 // A leap by so many ticks: it stops after the first one in which a timer fires or is queued.
-pub fn leap(t: &mut [u32], list: &mut [u32], most: u32, end: u32) -> Progress
-    requires { ⌜ Ready (now t) (now list) end × (most ≤ 1000000) ⌝ }
+pub fn leap(t: &mut [u32], most: u32, list: &mut [u32], end: u32) -> Gone
+    requires { ⌜ Ready (now t) (now list) end × (most ≤ mostLeap) ⌝ }
     ensures { λ r. ⌜ Leaps (now (t .entry)) (now (list .entry)) most (r .count) (r .done) (now (t .exit)) (now (list .exit)) ⌝ }
 {
     if most == 0 {
-        return Progress { count: 0, done: 0 };
+        return Gone { count: 0, done: 0 };
     }
     let ticks = until_due(t, most);
     skip(t, ticks - 1);
     let fired = tick(t, list, end);
-    Progress {
+    Gone {
         count: fired,
         done: ticks,
     }

@@ -1,12 +1,7 @@
 -- `leaping::run_clock` meets its contract: the ticks into the second and those to come are whole seconds and a rest. Assumes nothing.
-use mathlib.Core.List.{List}
-use mathlib.Core.Bool.{true}
-use mathlib.Core.Path.{_≡_}
-use Prim.Native.Nat.{ℕ}
 use native.Mathlib.Omega.{arith}
 use lib.ListN.{length-set}
 use borrow.Author.Needs.{needs}
-use Rattle.model.specs.Sound.{sound}
 use Rattle.leaping.proofs.ClockRuns.{run-long, run-rate, run-fits, run-second-fits, run-unset, run-on, run-ends}
 use Rattle.leaping.proofs.run_clock.Statement.{statement}
 use Rattle.leaping.proofs.run_clock.Tie as tie

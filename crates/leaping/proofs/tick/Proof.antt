@@ -1,6 +1,5 @@
 -- `leaping::tick` meets its contract: its four steps, one after the other, are the model's tick. Assumes nothing.
 use borrow.Author.Needs.{needs}
-use mathlib.Core.List.{List}
 use mathlib.Core.Path.{_≡_, refl}
 use Prim.Native.Nat.{ℕ, _≤_}
 use native.Mathlib.Omega.{arith}
@@ -11,7 +10,6 @@ use Rattle.model.specs.Words.{read, seconds}
 use Rattle.model.proofs.SoundHolds.{sound-holds, sound-well-formed}
 use Rattle.firing.specs.Lists.{Room}
 use Rattle.firing.proofs.Ticks.{nearer-room, first-holds, first-into, clock-long, clock-room, second-is, ticked-is}
-use Rattle.leaping.specs.Leaps.{Ready}
 use Rattle.leaping.proofs.Leaping.{tick-is}
 use Rattle.leaping.proofs.tick.Statement.{statement}
 use Rattle.leaping.proofs.tick.Tie as tie

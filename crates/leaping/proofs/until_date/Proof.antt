@@ -1,6 +1,5 @@
 -- `leaping::until_date` meets its contract: there is no date to come, or the ticks until the first are reckoned. Assumes nothing.
 use native.Mathlib.Omega.{arith}
-use mathlib.Core.Path.{_∙_}
 use borrow.Author.Needs.{needs}
 use Rattle.model.proofs.SoundHolds.{sound-header}
 use Rattle.leaping.proofs.ClockRuns.{run-long}

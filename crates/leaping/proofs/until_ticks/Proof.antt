@@ -1,6 +1,5 @@
 -- `leaping::until_ticks` meets its contract: there is no interval timer, or the first one's wait is read. Assumes nothing.
 use native.Mathlib.Omega.{arith}
-use mathlib.Core.Path.{_∙_}
 use Rattle.leaping.proofs.ClockRuns.{run-long}
 use Rattle.leaping.proofs.Soonest.{no-ticks, some-ticks, ticking-inside}
 use Rattle.leaping.proofs.until_ticks.Statement.{statement}
