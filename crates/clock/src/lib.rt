@@ -53,8 +53,8 @@ pub fn tick(table: &mut [u32], fired: &mut [u32]) -> Answer
     let Answer::Done(end) = opened else {
         return opened;
     };
-    let count = leaping::tick(table, fired, end);
-    Answer::Done(count)
+    let listed = leaping::tick(table, fired, end);
+    Answer::Done(listed)
 }
 
 // A leap by so many ticks: it stops after the first one that fires or queues a timer. Answers how many fired, and how many ticks were done.
