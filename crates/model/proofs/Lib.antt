@@ -19,6 +19,7 @@ pub mod Searches
 pub mod GoingOn
 pub mod Steps
 pub mod AcceptedCalls
+pub mod LeapLaws
 pub mod KeptWellFormed
 pub mod HistoryLaws
 pub mod ChainLaws
@@ -33,6 +34,7 @@ pub mod CallTables
 pub mod Lasting
 pub mod NextDue
 pub mod ListWords
+pub mod LeapWords
 pub mod Demand3
 pub mod Readings
 pub mod CallReadings
