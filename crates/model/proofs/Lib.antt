@@ -42,4 +42,5 @@ pub mod Cases
 pub mod WorkedCases
 pub mod ClockCases
 pub mod ServerCases
+pub mod LeapCases
 pub mod EveryKind
