@@ -126,7 +126,7 @@ otherCalls =
     create 0 ∷ create 7 ∷ ident 0 ∷ ident 7 ∷ ident 12 ∷ ident 14
     ∷ tick (list 41) ∷ tick (list 42) ∷ setClock (at 60) (list 41) ∷ setClock (at 60) (list 42) ∷ setClock (at 10) (list 42) ∷ getClock
     ∷ initiateServer ∷ serve (list 2) ∷ serve (list 3)
-    ∷ leap 1000001 (list 41) ∷ leap 1000001 (list 42) ∷ leap 0 (list 41) ∷ leap 0 (list 42) ∷ leap 1 (list 42) ∷ leap 9 (list 43) ∷ []
+    ∷ leap 4294967295 (list 41) ∷ leap 4294967295 (list 42) ∷ leap 0 (list 41) ∷ leap 0 (list 42) ∷ leap 1 (list 42) ∷ leap 9 (list 43) ∷ []
 
 -- a call that leaves table and list as they are
 abbrev keeps : ℕ → List ℕ → List ℕ → Outcome

@@ -47,10 +47,9 @@ leapCases =
     (1 ∷ 10 ∷ replicate 8 0 ++ (2 ∷ 1 ∷ 3 ∷ 0 ∷ 7 ∷ 70 ∷ 0 ∷ 0 ∷ []))
     -- 101 where the list is shorter than 3N words, whatever k; then 10 where k is above 1,000,000. A longer list keeps its rest.
     ∷ calls (replicate 26 0)
-    (layOut 2 10 ∷ create 1 ∷ fireAfter one 1 7 70 ∷ leap 1000001 (replicate 5 99) ∷ leap 4294967295 [] ∷ leap 0 (replicate 5 99) ∷ leap 1000001 six
-    ∷ leap 4294967295 six ∷ leap 1000 nine ∷ [])
-    (yes 0 ∷ yes one ∷ yes 0 ∷ refusal 101 ∷ refusal 101 ∷ refusal 101 ∷ refusal 10 ∷ refusal 10 ∷ leaps 1 1 ∷ [])
-    (unlent 3 ++ (replicate 5 99 ∷ [] ∷ replicate 5 99 ∷ six ∷ six ∷ (one ∷ 7 ∷ 70 ∷ replicate 6 99) ∷ []))
+    (layOut 2 10 ∷ create 1 ∷ fireAfter one 1 7 70 ∷ leap 1000001 (replicate 5 99) ∷ leap 4294967295 [] ∷ leap 0 (replicate 5 99) ∷ leap 4294967295 six ∷ leap 1000 nine ∷ [])
+    (yes 0 ∷ yes one ∷ yes 0 ∷ refusal 101 ∷ refusal 101 ∷ refusal 101 ∷ refusal 10 ∷ leaps 1 1 ∷ [])
+    (unlent 3 ++ (replicate 5 99 ∷ [] ∷ replicate 5 99 ∷ six ∷ (one ∷ 7 ∷ 70 ∷ replicate 6 99) ∷ []))
     (2 ∷ 10 ∷ replicate 8 0 ++ (2 ∷ 1 ∷ 1 ∷ 0 ∷ 7 ∷ 70 ∷ 0 ∷ 0 ∷ replicate 8 0))
     -- A table that is not sound: 100 before all else.
     ∷ calls (1 ∷ 10 ∷ 2 ∷ replicate 15 0) (leap 1000001 [] ∷ leap 0 three ∷ []) (refusal 100 ∷ refusal 100 ∷ []) ([] ∷ three ∷ []) (1 ∷ 10 ∷ 2 ∷ replicate 15 0)
@@ -133,7 +132,7 @@ same-tables = refl
 
 -- Each tick of an accepted leap counts as an accepted tick, of a refused one and of a leap by 0 none.
 abbrev recorded : List Call
-recorded = layOut 1 10 ∷ create 1 ∷ fireAfter one 3 7 70 ∷ leap 2 three ∷ leap 1000001 three ∷ leap 0 three ∷ leap 9 [] ∷ leap 9 three ∷ []
+recorded = layOut 1 10 ∷ create 1 ∷ fireAfter one 3 7 70 ∷ leap 2 three ∷ leap 4294967295 three ∷ leap 0 three ∷ leap 9 [] ∷ leap 9 three ∷ []
 
 pub counted : acceptedIn (replicate 18 0) recorded ≡ layOut 1 10 ∷ create 1 ∷ fireAfter one 3 7 70 ∷ replicate 3 (tick three)
 unfolding headerSound slotSound chainSound ticksSound datesSound queueSound sound statusOn outcome

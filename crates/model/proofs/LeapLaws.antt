@@ -22,13 +22,11 @@ use Rattle.model.proofs.Steps.{fire-slots, memo-fire, due-parts, back-i
 module _ (k : ℕ) (s : State) where
   -- a tick in which nothing is due, and what follows it
   pub leapt-on : isQuiet s ≡ true → leapt (suc k) s ≡ oneMore (leapt k (tickedOnce s))
-  leapt-on e =
-      ap (λ (b : Bool). cond b (oneMore (leapt k (tickedOnce s))) (record { state = tickedOnce s; done = 1; fired = withoutServer (s .slots) (dueInTick s) })) e
+  leapt-on e = rw e
 
   -- a tick in which something is due
   pub leapt-stops : isQuiet s ≡ false → leapt (suc k) s ≡ record { state = tickedOnce s; done = 1; fired = withoutServer (s .slots) (dueInTick s) }
-  leapt-stops e =
-      ap (λ (b : Bool). cond b (oneMore (leapt k (tickedOnce s))) (record { state = tickedOnce s; done = 1; fired = withoutServer (s .slots) (dueInTick s) })) e
+  leapt-stops e = rw e
 
 -- what every tick keeps, a leap keeps
 pub leapt-keeps : (P : State → Type 0) → ((s : State) → P s → P (tickedOnce s)) → (k : ℕ) (s : State) → P s → P (leapt k s .state)

@@ -29,6 +29,7 @@ pub mod Simulation
 pub mod ClockSimulation
 pub mod Agreement
 pub mod OutcomeLaws
+pub mod SingleCalls
 pub mod ClockReadings
 pub mod CallTables
 pub mod Lasting
