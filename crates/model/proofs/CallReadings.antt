@@ -104,11 +104,11 @@ ends-is id h (serve list) = refl
 ends-is id h (leap k list) = refl
 
 -- the events of more calls, before which there were the events h
-record More (id : ℕ) (h : List Event) (cs : List Call) : Type 0 where
-  events : List Event
-  are : eventsOn h cs ≡ events ++ h
-  as-many : ticks events ≡ count isTickCall cs
-  as-ended : any (ends id) events ≡ any (endsTimer id) cs
+pub record More (id : ℕ) (h : List Event) (cs : List Call) : Type 0 where
+  pub events : List Event
+  pub are : eventsOn h cs ≡ events ++ h
+  pub as-many : ticks events ≡ count isTickCall cs
+  pub as-ended : any (ends id) events ≡ any (endsTimer id) cs
 
 any-append : (p : Event → Bool) (xs ys : List Event) → any p (xs ++ ys) ≡ (any p xs || any p ys)
 any-append p [] ys = refl
@@ -120,7 +120,7 @@ or-comm true false = refl
 or-comm false true = refl
 or-comm false false = refl
 
-more : (id : ℕ) (h : List Event) (cs : List Call) → More id h cs
+pub more : (id : ℕ) (h : List Event) (cs : List Call) → More id h cs
 more id h [] = record { events = []; are = refl; as-many = refl; as-ended = refl }
 more id h (c ∷ cs) =
     let e = eventOf h c in
@@ -150,7 +150,7 @@ module _ (w : List ℕ) (n t : ℕ) (before : List Call) (start : Call) (later :
   abbrev pub whole : List Call
   whole = before ++ (start ∷ later)
 
-  events-since : isLeap start ≡ false → outcome atStart start .status ≡ 0
+  pub events-since : isLeap start ≡ false → outcome atStart start .status ≡ 0
       → eventsAfter w (layOut n t ∷ whole)
       ≡ eventsOn (eventOf (eventsAfter w (layOut n t ∷ before)) start ∷ eventsAfter w (layOut n t ∷ before)) since
   events-since one started =

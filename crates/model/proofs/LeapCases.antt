@@ -1,20 +1,22 @@
 -- Document 02, item 7, leap: cases for each of its sentences, computed from the definitions as the starred ones are. Assumes nothing.
 use mathlib.Core.Path.{_≡_, refl}
 use Prim.Native.Nat.{ℕ}
+use native.Mathlib.Omega.{arith}
 use mathlib.Core.Bool.{true, false}
 use mathlib.Core.Option.{some}
-use mathlib.Core.List.{List, [], _∷_, _++_, map}
+use mathlib.Core.List.{List, [], _∷_, _++_, map, cons≢nil}
 use lib.ListN.{replicate}
 use Rattle.calendar.specs.declared.WallTime.{WallTime}
 use Rattle.calendar.specs.Calendar.{monthsOf, years, valid, secondsOf}
 use Rattle.model.specs.Calls.{Call, layOut, create, fireAfter, fireWhen, fireEvery, ticksLeft, tick, setClock, initiateServer, serverFireAfter, serverFireWhen, serve, leap, isLeap, answerCount}
 use Rattle.model.specs.Kinds.{After}
 use Rattle.model.specs.Sound.{headerSound, slotSound, chainSound, ticksSound, datesSound, queueSound, sound}
-use Rattle.model.specs.Outcome.{statusOn, outcome}
+use Rattle.model.specs.Outcome.{outcomeOf, statusOn, outcome}
 use Rattle.model.specs.History.{startOf, laidOutFor, changes, oneTick, nothing}
 use Rattle.model.specs.Demand.{after, acceptedIn, eventsAfter}
+use Rattle.model.proofs.LeapWords.{leap-longer}
 use Rattle.model.proofs.Cases.{Case, calls, computed, lines, lists, date, nine, unlent}
-use Rattle.model.proofs.WorkedCases.{one, two, three, six, no, yes, oneOfEach}
+use Rattle.model.proofs.WorkedCases.{one, two, three, six, yes, oneOfEach}
 
 -- the count fired and the ticks done; a refusal, with the two zeros beside it
 abbrev leaps : ℕ → ℕ → List ℕ
@@ -30,14 +32,18 @@ at s = date 2000 1 1 0 0 s
 abbrev finalSecond : ℕ → WallTime
 finalSecond ticks = record { year = 2099; month = 12; day = 31; hour = 23; minute = 59; second = 59; ticks = ticks }
 
+-- one timer waits for 3 ticks, by word 8 and its kind
+abbrev oneWaits : ℕ → ℕ → List ℕ
+oneWaits server kind = 1 ∷ 10 ∷ 0 ∷ 0 ∷ 0 ∷ 1 ∷ 0 ∷ 0 ∷ server ∷ 0 ∷ kind ∷ 1 ∷ 3 ∷ 3 ∷ 7 ∷ 70 ∷ 0 ∷ 0 ∷ []
+
 -- the one timer that fired
 abbrev fired : List ℕ
 fired = one ∷ 7 ∷ 70 ∷ []
 
 abbrev leapCases : List Case
 leapCases =
-    -- By 0 nothing is done. It stops after the tick that fires, the third, where k is smaller before that, and where it is as large there too. Where no
-    -- timer waits all k are done.
+    -- By 0 it does nothing. A timer waits for 3 ticks: by 2 it does both of them, by 3, 4 and more it stops after the third, which fires. Where no timer
+    -- waits it does all k.
     calls (replicate 18 0)
     (layOut 1 10 ∷ create 1 ∷ fireAfter one 3 7 70 ∷ leap 0 three ∷ leap 2 three ∷ ticksLeft one ∷ leap 0 three ∷ leap 1 three ∷ leap 4 three
     ∷ fireAfter one 3 7 70 ∷ leap 3 three ∷ fireAfter one 3 7 70 ∷ leap 4 three ∷ fireAfter one 3 7 70 ∷ leap 1000 three ∷ [])
@@ -47,7 +53,8 @@ leapCases =
     (1 ∷ 10 ∷ replicate 8 0 ++ (2 ∷ 1 ∷ 3 ∷ 0 ∷ 7 ∷ 70 ∷ 0 ∷ 0 ∷ []))
     -- 101 where the list is shorter than 3N words, whatever k; then 10 where k is above 1,000,000. A longer list keeps its rest.
     ∷ calls (replicate 26 0)
-    (layOut 2 10 ∷ create 1 ∷ fireAfter one 1 7 70 ∷ leap 1000001 (replicate 5 99) ∷ leap 4294967295 [] ∷ leap 0 (replicate 5 99) ∷ leap 4294967295 six ∷ leap 1000 nine ∷ [])
+    (layOut 2 10 ∷ create 1 ∷ fireAfter one 1 7 70 ∷ leap 1000001 (replicate 5 99) ∷ leap 4294967295 []
+    ∷ leap 0 (replicate 5 99) ∷ leap 4294967295 six ∷ leap 1000 nine ∷ [])
     (yes 0 ∷ yes one ∷ yes 0 ∷ refusal 101 ∷ refusal 101 ∷ refusal 101 ∷ refusal 10 ∷ leaps 1 1 ∷ [])
     (unlent 3 ++ (replicate 5 99 ∷ [] ∷ replicate 5 99 ∷ six ∷ (one ∷ 7 ∷ 70 ∷ replicate 6 99) ∷ []))
     (2 ∷ 10 ∷ replicate 8 0 ++ (2 ∷ 1 ∷ 1 ∷ 0 ∷ 7 ∷ 70 ∷ 0 ∷ 0 ∷ replicate 8 0))
@@ -101,6 +108,17 @@ leap-cases = refl
 pub limit : map (statusOn (1 ∷ 10 ∷ replicate 16 0)) (leap 1000000 three ∷ leap 1000001 three ∷ leap 0 three ∷ []) ≡ 0 ∷ 10 ∷ 0 ∷ []
 unfolding headerSound slotSound chainSound ticksSound datesSound queueSound sound statusOn
 limit = refl
+
+-- By 1,000,000 too it stops after the tick that fires, or queues: it is the leap by 3.
+pub longest : outcome (oneWaits 0 4) (leap 1000000 three)
+    ≡ outcomeOf 0 (1 ∷ 3 ∷ []) (1 ∷ 10 ∷ replicate 8 0 ++ (2 ∷ 1 ∷ 3 ∷ 0 ∷ 7 ∷ 70 ∷ 0 ∷ 0 ∷ [])) fired
+unfolding headerSound slotSound chainSound ticksSound datesSound queueSound sound statusOn outcome
+longest = leap-longer (oneWaits 0 4) three 3 999997 (omega arith) refl (λ none same. absurd (omega (arith, none)))
+
+pub longest-queues : outcome (oneWaits 1 10) (leap 1000000 three)
+    ≡ outcomeOf 0 (0 ∷ 3 ∷ []) (1 ∷ 10 ∷ replicate 6 0 ++ (1 ∷ 1 ∷ 12 ∷ 1 ∷ 3 ∷ 0 ∷ 7 ∷ 70 ∷ 0 ∷ 0 ∷ [])) three
+unfolding headerSound slotSound chainSound ticksSound datesSound queueSound sound statusOn outcome
+longest-queues = leap-longer (oneWaits 1 10) three 3 999997 (omega arith) refl (λ none same. absurd (cons≢nil same))
 
 -- ---- two leaps, one leap, and single ticks
 

@@ -39,6 +39,7 @@ pub mod Demand3
 pub mod Readings
 pub mod CallReadings
 pub mod QueueReadings
+pub mod LeapReadings
 pub mod Cases
 pub mod WorkedCases
 pub mod ClockCases
