@@ -150,14 +150,14 @@ same-tables = refl
 
 -- Each tick of an accepted leap counts as an accepted tick, of a refused one and of a leap by 0 none.
 abbrev recorded : List Call
-recorded = layOut 1 10 ∷ create 1 ∷ fireAfter one 3 7 70 ∷ leap 2 three ∷ leap 4294967295 three ∷ leap 0 three ∷ leap 9 [] ∷ leap 9 three ∷ []
+recorded = layOut 1 10 ∷ create 1 ∷ fireAfter one 4 7 70 ∷ leap 3 three ∷ leap 4294967295 three ∷ leap 0 three ∷ leap 9 [] ∷ leap 9 three ∷ []
 
-pub counted : acceptedIn (replicate 18 0) recorded ≡ layOut 1 10 ∷ create 1 ∷ fireAfter one 3 7 70 ∷ replicate 3 (tick three)
+pub counted : acceptedIn (replicate 18 0) recorded ≡ layOut 1 10 ∷ create 1 ∷ fireAfter one 4 7 70 ∷ replicate 4 (tick three)
 unfolding headerSound slotSound chainSound ticksSound datesSound queueSound sound statusOn outcome
 counted = refl
 
 pub events : eventsAfter (replicate 18 0) recorded
-    ≡ oneTick ∷ oneTick ∷ oneTick ∷ changes one (some (startOf one After 3 7 70)) ∷ nothing ∷ laidOutFor 10 ∷ []
+    ≡ oneTick ∷ oneTick ∷ oneTick ∷ oneTick ∷ changes one (some (startOf one After 4 7 70)) ∷ nothing ∷ laidOutFor 10 ∷ []
 unfolding headerSound slotSound chainSound ticksSound datesSound queueSound sound statusOn outcome
 events = refl
 
