@@ -173,7 +173,8 @@ module _ (s : State) (h : List Event) (v : Agrees s h) (f : WellFormed s) (words
       none-handed servesFront z = clash (sym z)
       none-handed nothing z = refl
 
-  pub many-served : (c : Call) → firstOf (refusals words s c) ≡ 0 → isLeap c ≡ false → servesIn (eventOf h c) ≡ 1 → length (effect s c .fired) ≡ length (take 1 queue)
+  pub many-served : (c : Call) → firstOf (refusals words s c) ≡ 0 → isLeap c ≡ false → servesIn (eventOf h c) ≡ 1
+      → length (effect s c .fired) ≡ length (take 1 queue)
   many-served c e one front =
       sym (length-map (effect s c .fired) (listed (s .slots))) ∙ ap length (lists-due c e one)
       ∙ ap₂ (λ (l : List Placed) (n : ℕ). length (map entry l ++ map entryOf (take n queue))) (none-fire h (eventOf h c) (still (eventOf h c) front)) front

@@ -7,17 +7,17 @@ use native.Mathlib.Omega.{arith}
 use mathlib.Core.Bool.{Bool, true, false, cond, not, _&&_, _||_}
 use mathlib.Core.Option.{Option, some}
 use mathlib.Core.List.{List, [], _∷_, _++_, append-assoc, List·Memᴰ}
-use lib.ListN.{replicate}
 use lib.Dec.{eqb}
 use borrow.Author.Tests.{eq-eqb}
 use Rattle.calendar.specs.Calendar.{lastSecond}
 use Rattle.model.specs.Lists.{any, count, All}
-use Rattle.model.specs.Calls.{Call, layOut, create, ident, cancel, delete, fireAfter, fireWhen, fireEvery, reset, ticksLeft, tick, setClock, getClock, initiateServer, serverFireAfter, serverFireWhen, serve, leap, isLeap, lentTo}
+use Rattle.model.specs.Calls.{Call, layOut, create, ident, cancel, delete, fireAfter, fireWhen, fireEvery, reset, ticksLeft, tick, setClock, getClock, initiateServer, serverFireAfter, serverFireWhen, serve, leap, isLeap}
 use Rattle.model.specs.Kinds.{ServerAfter}
 use Rattle.model.specs.Outcome.{outcome}
 use Rattle.model.specs.History.{Start, startOf, Event, laidOutFor, changes, deletes, oneTick, clockSetTo, initiates, servesFront, nothing, eventOf, eventsOn, isTick, ticks, perSecond, clockAfter, ends, isQueued, Queues, IsQueue}
-use Rattle.model.specs.Demand.{after, ticksDone, singly, acceptedIn, eventsAfter}
+use Rattle.model.specs.Demand.{after, singly, acceptedIn, eventsAfter}
 use Rattle.model.proofs.ListLaws.{cases, clash, all, keep-all, count-append}
+use Rattle.model.proofs.SingleCalls.{alone, accepted-append, events-append}
 use Rattle.model.proofs.Readings.{Lists, tick-lists, multiple-lists, startAt, queued-at-nth-tick, goes-to-back}
 
 -- ---- the words of a list of accepted calls
@@ -104,11 +104,11 @@ ends-is id h (serve list) = refl
 ends-is id h (leap k list) = refl
 
 -- the events of more calls, before which there were the events h
-record More (id : ℕ) (h : List Event) (cs : List Call) : Type 0 where
-  events : List Event
-  are : eventsOn h cs ≡ events ++ h
-  as-many : ticks events ≡ count isTickCall cs
-  as-ended : any (ends id) events ≡ any (endsTimer id) cs
+pub record More (id : ℕ) (h : List Event) (cs : List Call) : Type 0 where
+  pub events : List Event
+  pub are : eventsOn h cs ≡ events ++ h
+  pub as-many : ticks events ≡ count isTickCall cs
+  pub as-ended : any (ends id) events ≡ any (endsTimer id) cs
 
 any-append : (p : Event → Bool) (xs ys : List Event) → any p (xs ++ ys) ≡ (any p xs || any p ys)
 any-append p [] ys = refl
@@ -120,7 +120,7 @@ or-comm true false = refl
 or-comm false true = refl
 or-comm false false = refl
 
-more : (id : ℕ) (h : List Event) (cs : List Call) → More id h cs
+pub more : (id : ℕ) (h : List Event) (cs : List Call) → More id h cs
 more id h [] = record { events = []; are = refl; as-many = refl; as-ended = refl }
 more id h (c ∷ cs) =
     let e = eventOf h c in
@@ -136,23 +136,6 @@ more id h (c ∷ cs) =
     one : (a b : Bool) → a ≡ b → (n m : ℕ) → n ≡ m → n + cond a 1 0 ≡ cond b (suc m) m
     one a b e n m is = rw e (cases b (λ f. rw f (omega arith)) (λ f. rw f (omega arith)))
 
-after-append : (t : List ℕ) (xs ys : List Call) → after t (xs ++ ys) ≡ after (after t xs) ys
-after-append t [] ys = refl
-after-append t (c ∷ xs) ys = after-append (outcome t c .table) xs ys
-
-accepted-append : (t : List ℕ) (xs ys : List Call) → acceptedIn t (xs ++ ys) ≡ acceptedIn t xs ++ acceptedIn (after t xs) ys
-accepted-append t [] ys = refl
-accepted-append t (c ∷ xs) ys =
-    let rest = accepted-append (outcome t c .table) xs ys in
-    let u = outcome t c .table in
-    cases (eqb (outcome t c .status) 0)
-    (λ e. rw e (ap {B = List Call} (λ l. singly t c ++ l) rest ∙ sym (append-assoc (singly t c) (acceptedIn u xs) (acceptedIn (after u xs) ys))))
-    (λ e. rw e rest)
-
-events-append : (h : List Event) (xs ys : List Call) → eventsOn h (xs ++ ys) ≡ eventsOn (eventsOn h xs) ys
-events-append h [] ys = refl
-events-append h (c ∷ xs) ys = events-append (eventOf h c ∷ h) xs ys
-
 -- ---- the nth tick
 
 -- The calls before a start, the start, the calls after it of which so many are accepted ticks and none that is accepted ends the timer, and then an
@@ -164,14 +147,10 @@ module _ (w : List ℕ) (n t : ℕ) (before : List Call) (start : Call) (later :
   abbrev pub since : List Call
   since = acceptedIn (outcome atStart start .table) later
 
-  -- its ticks, if it were a leap
-  abbrev many : List Call
-  many = replicate (ticksDone (outcome atStart start .answer)) (tick (lentTo start))
-
   abbrev pub whole : List Call
   whole = before ++ (start ∷ later)
 
-  events-since : isLeap start ≡ false → outcome atStart start .status ≡ 0
+  pub events-since : isLeap start ≡ false → outcome atStart start .status ≡ 0
       → eventsAfter w (layOut n t ∷ whole)
       ≡ eventsOn (eventOf (eventsAfter w (layOut n t ∷ before)) start ∷ eventsAfter w (layOut n t ∷ before)) since
   events-since one started =
@@ -179,7 +158,7 @@ module _ (w : List ℕ) (n t : ℕ) (before : List Call) (start : Call) (later :
       ∙ events-append [] (acceptedIn w (layOut n t ∷ before)) (acceptedIn atStart (start ∷ later))
       ∙ ap (λ (b : Bool). eventsOn (eventsAfter w (layOut n t ∷ before)) (cond b (singly atStart start ++ since) since))
       (eq-eqb (outcome atStart start .status) 0 started)
-      ∙ ap (λ (b : Bool). eventsOn (eventsAfter w (layOut n t ∷ before)) (cond b many (start ∷ []) ++ since)) one
+      ∙ ap (λ (l : List Call). eventsOn (eventsAfter w (layOut n t ∷ before)) (l ++ since)) (alone atStart start one)
 
 module _ (w : List ℕ) (n t : ℕ) (ok : outcome w (layOut n t) .status ≡ 0) (before later : List Call) (id k r u : ℕ) (list : List ℕ) where
   -- A timer started for n ticks fires exactly at the nth accepted tick after that start, whatever the clock did.

@@ -33,6 +33,7 @@ use Rattle.model.proofs.Simulation.{Agrees, agrees-laid}
 use Rattle.model.proofs.Agreement.{reset-last, agrees-step, lists-due, many-fire, many-served, few-fire, moves-by, none-fires, counts}
 use Rattle.model.proofs.OutcomeLaws.{each-leap, status-is, outcome-accepted, outcome-refused, outcome-status}
 use Rattle.model.proofs.ClockLaws.{apart}
+use Rattle.model.proofs.SingleCalls.{alone, events-append, events-ticks}
 use Rattle.model.proofs.ClockReadings.{set-clock-status, refused-moves-none, get-clock-reads}
 use Rattle.model.proofs.CallTables.{laid-table, laid-sound, laid-read, effect-sound, table-left, state-left}
 use Rattle.model.proofs.Lasting.{none-laid, cancels-on, cancelled-on, lasts-on, anew-on}
@@ -122,14 +123,6 @@ module _ (list : List ℕ) where
   ticks-run (suc d) t r h g =
       ticks-run d (outcome t (tick list) .table) (next-ready list t r) (oneTick ∷ h) (kept-by-call t h g (tick list) (tick-status list t r) refl)
 
-  only-ticks : (m : ℕ) (h : List Event) → eventsOn h (replicate m (tick list)) ≡ replicate m oneTick ++ h
-  only-ticks zero h = refl
-  only-ticks (suc m) h = only-ticks m (oneTick ∷ h) ∙ one-more m h
-    where
-      one-more : (m : ℕ) (h : List Event) → replicate m oneTick ++ (oneTick ∷ h) ≡ oneTick ∷ (replicate m oneTick ++ h)
-      one-more zero h = refl
-      one-more (suc m) h = ap {B = List Event} (λ l. oneTick ∷ l) (one-more m h)
-
   still-ready : (m : ℕ) (t : List ℕ) → Ready list t → Ready list (after t (replicate m (tick list)))
   still-ready zero t r = r
   still-ready (suc m) t r = still-ready m (outcome t (tick list) .table) (next-ready list t r)
@@ -139,7 +132,7 @@ module _ (list : List ℕ) where
       → Lists (after t (replicate m (tick list))) (replicate m oneTick ++ h) (tick list) oneTick
   each-lists m t r h g =
       let u = after t (replicate m (tick list)) in
-      subst (λ (es : List Event). Lists u es (tick list) oneTick) (only-ticks m h)
+      subst (λ (es : List Event). Lists u es (tick list) oneTick) (events-ticks list m h)
       (lists-now u (eventsOn h (replicate m (tick list))) (ticks-run m t r h g) (tick list) (tick-status list u (still-ready m t r)) refl)
 
 -- ---- what is answered
@@ -213,10 +206,6 @@ module _ (t : List ℕ) (h : List Event) (g : SoundAndAgreeing t h) (c : Call) w
 
 -- ---- a list of calls
 
-events-append : (h : List Event) (cs ds : List Call) → eventsOn h (cs ++ ds) ≡ eventsOn (eventsOn h cs) ds
-events-append h [] ds = refl
-events-append h (c ∷ cs) ds = events-append (eventOf h c ∷ h) cs ds
-
 -- the single calls that an accepted call is
 call-run : (t : List ℕ) (h : List Event) → SoundAndAgreeing t h → (c : Call) → statusOn t c ≡ 0
     → SoundAndAgreeing (outcome t c .table) (eventsOn h (singly t c))
@@ -227,10 +216,7 @@ call-run t h g = each-leap (λ c. statusOn t c ≡ 0 → SoundAndAgreeing (outco
     let many : ticksDone (outcome t (leap k list) .answer) ≡ q .done = ap (λ (x : List ℕ). ticksDone x) (q .answer) in
     subst (λ (n : ℕ). SoundAndAgreeing (outcome t (leap k list) .table) (eventsOn h (replicate n (tick list)))) (sym many)
     (subst (λ (u : List ℕ). SoundAndAgreeing u (eventsOn h (replicate (q .done) (tick list)))) (sym (q .table)) (ticks-run list (q .done) t (r .0) h g)))
-    (λ c one z.
-    let single : singly t c ≡ c ∷ [] =
-    ap (λ (b : Bool). cond b (replicate (ticksDone (outcome t c .answer)) (tick (lentTo c))) (c ∷ [])) one in
-    subst (λ (l : List Call). SoundAndAgreeing (outcome t c .table) (eventsOn h l)) (sym single) (kept-by-call t h g c z one))
+    (λ c one z. subst (λ (l : List Call). SoundAndAgreeing (outcome t c .table) (eventsOn h l)) (sym (alone t c one)) (kept-by-call t h g c z one))
 
 run : (xs : List Call) (t : List ℕ) (h : List Event) → SoundAndAgreeing t h → SoundAndAgreeing (after t xs) (eventsOn h (acceptedIn t xs))
 run [] t h g = g

@@ -3,7 +3,7 @@
 use mathlib.Core.Path.{_≡_, refl, sym, ap, _∙_, subst}
 use Prim.Native.Nat.{ℕ, zero, suc, _+_}
 use native.Mathlib.Omega.{arith}
-use mathlib.Core.Bool.{Bool, true, false, cond}
+use mathlib.Core.Bool.{Bool, true, false}
 use mathlib.Core.List.{List, [], _∷_, map}
 use lib.ListN.{length, length-append, length-map}
 use lib.Dec.{ltb}
@@ -22,13 +22,11 @@ use Rattle.model.proofs.Steps.{fire-slots, memo-fire, due-parts, back-i
 module _ (k : ℕ) (s : State) where
   -- a tick in which nothing is due, and what follows it
   pub leapt-on : isQuiet s ≡ true → leapt (suc k) s ≡ oneMore (leapt k (tickedOnce s))
-  leapt-on e =
-      ap (λ (b : Bool). cond b (oneMore (leapt k (tickedOnce s))) (record { state = tickedOnce s; done = 1; fired = withoutServer (s .slots) (dueInTick s) })) e
+  leapt-on e = rw e
 
   -- a tick in which something is due
   pub leapt-stops : isQuiet s ≡ false → leapt (suc k) s ≡ record { state = tickedOnce s; done = 1; fired = withoutServer (s .slots) (dueInTick s) }
-  leapt-stops e =
-      ap (λ (b : Bool). cond b (oneMore (leapt k (tickedOnce s))) (record { state = tickedOnce s; done = 1; fired = withoutServer (s .slots) (dueInTick s) })) e
+  leapt-stops e = rw e
 
 -- what every tick keeps, a leap keeps
 pub leapt-keeps : (P : State → Type 0) → ((s : State) → P s → P (tickedOnce s)) → (k : ℕ) (s : State) → P s → P (leapt k s .state)
@@ -167,7 +165,7 @@ all-quiet (suc k) s h z q =
       ap (λ (l : Leapt). length (l .state .queue)) stop,
     ))))
 
--- ---- two leaps, of which the first is isQuiet
+-- ---- two leaps, of which the first is quiet
 
 -- that many ticks more
 abbrev pub further : ℕ → Leapt → Leapt
@@ -189,10 +187,24 @@ leapt-add (suc a) b s (e, z) =
     ∙ ap (λ (d : ℕ). record { state = r .state; done = d; fired = r .fired }) more
     ∙ ap (λ (l : Leapt). further (suc a) (leapt b (l .state))) (sym on)
 
--- a isQuiet leap lists none and leaves the slots
-pub leapt-quiet : (k : ℕ) (s : State) → AllQuiet k s → (leapt k s .fired ≡ []) × (leapt k s .state .slots ≡ s .slots)
-leapt-quiet zero s z = (refl, refl)
+-- a quiet leap lists none, and leaves slots and queue
+pub leapt-quiet : (k : ℕ) (s : State) → AllQuiet k s
+    → (leapt k s .fired ≡ []) × (leapt k s .state .slots ≡ s .slots) × (leapt k s .state .queue ≡ s .queue)
+leapt-quiet zero s z = (refl, refl, refl)
 leapt-quiet (suc k) s (e, z) =
     let on = leapt-on k s e in
-    let rest = leapt-quiet k (tickedOnce s) z in
-    (ap (λ (l : Leapt). l .fired) on ∙ rest .0, ap (λ (l : Leapt). l .state .slots) on ∙ rest .1 ∙ quiet-slots s e)
+    let rest = leapt-quiet k (tickedOnce s) z in (
+      ap (λ (l : Leapt). l .fired) on ∙ rest .0,
+      ap (λ (l : Leapt). l .state .slots) on ∙ rest .1 ∙ quiet-slots s e,
+      ap (λ (l : Leapt). l .state .queue) on ∙ rest .2 ∙ quiet-queue s e,
+    )
+
+-- where one of its ticks is not, a longer leap is the same
+pub leapt-longer : (a b : ℕ) (s : State) → (AllQuiet a s → ⊥) → leapt (a + b) s ≡ leapt a s
+leapt-longer zero b s n = absurd (n tt)
+leapt-longer (suc a) b s n =
+    let one : suc a + b ≡ suc (a + b) = omega arith in
+    ap (λ (m : ℕ). leapt m s) one
+    ∙ cases (isQuiet s)
+    (λ e. leapt-on (a + b) s e ∙ ap oneMore (leapt-longer a b (tickedOnce s) (λ z. n (e, z))) ∙ sym (leapt-on a s e))
+    (λ e. leapt-stops (a + b) s e ∙ sym (leapt-stops a s e))

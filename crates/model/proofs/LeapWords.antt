@@ -1,11 +1,11 @@
--- A leap on the words of a table: which number it is refused with; its table, list and count are those of that many single ticks; and a leap that
--- does all its ticks without firing or queueing, followed by another, is one leap. Assumes nothing.
+-- A leap on the words of a table: which number it is refused with; its table, list and count are those of that many single ticks; a leap that does
+-- all its ticks without firing or queueing, followed by another, is one leap; and where it fired or queued, a longer one is the same. Assumes nothing.
 use mathlib.Core.Path.{_≡_, refl, sym, ap, ap₂, _∙_, subst}
 use Prim.Native.Nat.{ℕ, zero, suc, _+_, _*_, _≤_, _<_}
 use native.Mathlib.Omega.{arith}
 use mathlib.Core.Bool.{Bool, true, false, cond, not}
 use mathlib.Core.List.{List, [], _∷_, map}
-use lib.ListN.{length, getD, replicate}
+use lib.ListN.{length, replicate}
 use lib.Dec.{leb, ltb}
 use borrow.Author.Tests.{eqb-false}
 use Rattle.model.specs.Status.{NotSound, ListTooShort, InvalidNumber, when, firstOf}
@@ -22,7 +22,7 @@ use Rattle.model.proofs.ListLaws.{cases, not-leb}
 use Rattle.model.proofs.ReadBack.{slots-length, over-over}
 use Rattle.model.proofs.SoundHolds.{sound-holds}
 use Rattle.model.proofs.AcceptedCalls.{LongEnough, accepted-facts, facts-accepted}
-use Rattle.model.proofs.LeapLaws.{leapt-on, leapt-stops, AllQuiet, all-quiet, leapt-add, leapt-quiet, quiet-queue, quiet-fired, tick-queues}
+use Rattle.model.proofs.LeapLaws.{leapt-on, leapt-stops, AllQuiet, all-quiet, leapt-add, leapt-quiet, leapt-longer, quiet-queue, quiet-fired, tick-queues}
 use Rattle.model.proofs.KeptWellFormed.{tick-slots, leap-slots}
 use Rattle.model.proofs.OutcomeLaws.{status-is, outcome-accepted, outcome-status}
 use Rattle.model.proofs.CallTables.{effect-sound, table-left, state-left}
@@ -97,7 +97,8 @@ module _ (list : List ℕ) where
 
     empty-tick : isQuiet s ≡ true → EmptyTick t list
     empty-tick e = (
-      subst (TickGives t list 0) (ap (λ (l : List Link). written (map (listed (s .slots)) l) list) (quiet-fired s e)) (tick-gives 0 (ap length (quiet-fired s e))),
+      subst (TickGives t list 0) (ap (λ (l : List Link). written (map (listed (s .slots)) l) list) (quiet-fired s e))
+          (tick-gives 0 (ap length (quiet-fired s e))),
       ap (λ (z : State). z .queue) next-read ∙ quiet-queue s e,
     )
 
@@ -240,7 +241,8 @@ module _ (list : List ℕ) where
         within = omega arith;
         stops = λ p q.
             let queue : tickedOnce s .queue ≡ s .queue =
-            sym (ap (λ (z : State). z .queue) (next-read t r)) ∙ sym (ap (λ (o : Outcome). links Queue (o .table)) is ∙ ap (links Queue) (sym (next-is t r))) ∙ q in
+            sym (ap (λ (z : State). z .queue) (next-read t r))
+            ∙ sym (ap (λ (o : Outcome). links Queue (o .table)) is ∙ ap (links Queue) (sym (next-is t r))) ∙ q in
             absurd (eqb-false (length (dueInTick s)) 0 e (omega (arith, p, ap length queue, tick-queues s (sound-holds t (r .is-sound) .chained))));
       }
     where
@@ -262,19 +264,40 @@ leap-ready t ok k list e =
     let p = accepted-facts t (read t) (leap k list) (sym (status-is t (leap k list)) ∙ e) in
     (record { is-sound = ok; long = p .0 }, p .1)
 
+module _ (t list : List ℕ) (a b : ℕ) (few : a + b ≤ mostLeap) (e : outcome t (leap a list) .status ≡ 0) where
+  status-a : statusOn t (leap a list) ≡ 0
+  status-a = sym (outcome-status t (leap a list)) ∙ e
+
+  sound-a : sound t ≡ true
+  sound-a = cases (sound t) (λ y. y) (λ n. absurd (let h : 100 ≡ 0 = sym (rw n) ∙ sym (status-is t (leap a list)) ∙ status-a in omega arith))
+
+  ready-a : Ready list t
+  ready-a = leap-ready t sound-a a list status-a .0
+
+  small : a ≤ mostLeap
+  small = omega arith
+
+  -- a leap that listed none and left the queue as it was did all its ticks, each of them empty
+  empty-leap : firstNumber (outcome t (leap a list) .answer) ≡ 0 → links Queue (outcome t (leap a list) .table) ≡ links Queue t → AllQuiet a (read t)
+  empty-leap none same =
+      all-quiet a (read t) (sound-holds t sound-a .chained)
+      (sym (ap (λ (o : Outcome). firstNumber (o .answer)) (leap-is list a small t ready-a)) ∙ none)
+      (ap length (sym (ap (λ (x : State). x .queue) (leap-read list a small t ready-a)) ∙ same))
+
+  -- Where it fired or queued a timer, a longer one is the same.
+  pub leap-longer : (firstNumber (outcome t (leap a list) .answer) ≡ 0 → links Queue (outcome t (leap a list) .table) ≡ links Queue t → ⊥)
+      → outcome t (leap (a + b) list) ≡ outcome t (leap a list)
+  leap-longer stops =
+      leap-is list (a + b) few t ready-a
+      ∙ ap (leftBy list t) (leapt-longer a b (read t) (λ z.
+      let quiet = leapt-quiet a (read t) z in
+      stops (ap (λ (o : Outcome). firstNumber (o .answer)) (leap-is list a small t ready-a) ∙ ap length (quiet .0))
+      (ap (λ (x : State). x .queue) (leap-read list a small t ready-a) ∙ quiet .2)))
+      ∙ sym (leap-is list a small t ready-a)
+
 pub leaps-add : LeapsAdd
 leaps-add t list a b few e f q =
-    let z : statusOn t (leap a list) ≡ 0 = sym (outcome-status t (leap a list)) ∙ e in
-    let ok = accepted-sound z in
-    let r = leap-ready t ok a list z in
-    let none : length (leapt a (read t) .fired) ≡ 0 =
-    sym (ap (λ (o : Outcome). firstNumber (o .answer)) (leap-is list a (r .1) t (r .0))) ∙ ap (λ (x : List ℕ). firstNumber x) f in
-    let same : length (leapt a (read t) .state .queue) ≡ length (read t .queue) =
-    ap length (sym (ap (λ (x : State). x .queue) (leap-read list a (r .1) t (r .0))) ∙ q) in
-    let still = all-quiet a (read t) (sound-holds t ok .chained) none same in
-    together list a b few t (r .0) still
-    ∙ ap (λ (l : List ℕ). withTicksBefore a (outcome (outcome t (leap a list) .table) (leap b l))) (sym (u-list list a b few t (r .0) still))
-  where
-    accepted-sound : statusOn t (leap a list) ≡ 0 → sound t ≡ true
-    accepted-sound z =
-        cases (sound t) (λ y. y) (λ n. absurd (let h : 100 ≡ 0 = sym (rw n) ∙ sym (status-is t (leap a list)) ∙ z in omega arith))
+    let still = empty-leap t list a b few e (ap firstNumber f) q in
+    let r = ready-a t list a b few e in
+    together list a b few t r still
+    ∙ ap (λ (l : List ℕ). withTicksBefore a (outcome (outcome t (leap a list) .table) (leap b l))) (sym (u-list list a b few t r still))

@@ -29,6 +29,7 @@ pub mod Simulation
 pub mod ClockSimulation
 pub mod Agreement
 pub mod OutcomeLaws
+pub mod SingleCalls
 pub mod ClockReadings
 pub mod CallTables
 pub mod Lasting
@@ -38,8 +39,10 @@ pub mod Demand3
 pub mod Readings
 pub mod CallReadings
 pub mod QueueReadings
+pub mod LeapReadings
 pub mod Cases
 pub mod WorkedCases
 pub mod ClockCases
 pub mod ServerCases
+pub mod LeapCases
 pub mod EveryKind
