@@ -32,7 +32,7 @@ use Rattle.model.proofs.OutcomeLaws.{outcome-status}
 use Rattle.model.proofs.SoundHolds.{sound-header}
 use Rattle.firing.specs.Lists.{Leaves}
 use Rattle.firing.proofs.Ticks.{movedTo}
-use Rattle.leaping.specs.Leaps.{Ready, Leaps}
+use Rattle.leaping.specs.Leaps.{Ready, LeapLeaves}
 use Rattle.answers.specs.declared.Answer.{Answer}
 use Rattle.answers.specs.declared.Answer.the-variants.{Refused}
 use Rattle.answers.specs.Answers.{statusOf, answerOf}
@@ -125,6 +125,6 @@ tick-done t list {m} {u} {list′} none l = done t (tick list) (m ∷ []) u list
 -- ---- leap
 
 pub leap-done : (t list : List ℕ) {k m d : ℕ} {u list′ : List ℕ} → All (λ r. r .given ≡ false) (rules t (leap k list))
-    → Leaps t list k m d u list′ → outcomeOf 0 (m ∷ d ∷ []) u list′ ≡ outcome t (leap k list)
+    → LeapLeaves t list k m d u list′ → outcomeOf 0 (m ∷ d ∷ []) u list′ ≡ outcome t (leap k list)
 leap-done t list {k} {m} {d} {u} {list′} none l =
     done t (leap k list) (m ∷ d ∷ []) u list′ none (ap₂ {C = List ℕ} (λ (a b : ℕ). a ∷ b ∷ []) (l .fired) (l .ticks)) (l .table) (l .entries)

@@ -103,7 +103,8 @@ module _ (n : ℕ) (t : List ℕ) (s : State) (h : Holds t s) (w : Link) (ws : L
           & stays 4 (omega arith) (omega arith)
           & stays 5 (omega arith) (omega arith)
           & (stays 6 (omega arith) (omega arith) ∙ ap (λ (x : ℕ). x + nextIn (s .dated) i + nextIn (s .queue) i) (sym (next-closer n (s .ticking) i)))
-          & (stays 7 (omega arith) (omega arith) ∙ ap (λ (x : ℕ). x + previousIn 0 (s .dated) i + previousIn 0 (s .queue) i) (sym (previous-closer n 0 (s .ticking) i)))
+          & (stays 7 (omega arith) (omega arith)
+          ∙ ap (λ (x : ℕ). x + previousIn 0 (s .dated) i + previousIn 0 (s .queue) i) (sym (previous-closer n 0 (s .ticking) i)))
           & end)
 
   lowered : u ≡ writtenOver (nearerBy n s) t

@@ -1,6 +1,6 @@
 // The timer manager for C: the prototypes of include/heathcinder.h, in its order. A slice is a pointer and a length there, and seven words are
-// a `struct hc_wall_time`. Each call gives its status as the result; an answer goes through the last pointer, those of leap and of set clock through the last
-// two, and is 0 on every refusal. The contracts are the calls' own equations with the model's `outcome` and `movement`.
+// a `struct hc_wall_time`. Each call gives its status as the result; an answer goes through the last pointer, leap's two and set clock's two
+// through the last two, and is 0 on every refusal. The contracts are the calls' own equations with the model's `outcome` and `movement`.
 ghost use mathlib.Core.Path.{_≡_};
 ghost use mathlib.Core.List.{[], _∷_};
 ghost use Rattle.model.specs.Calls as call;

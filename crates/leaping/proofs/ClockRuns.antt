@@ -12,7 +12,7 @@ use lib.Dec.{ltb}
 use borrow.Author.Tests.{ltb-true, ltb-false, lt-ltb, le-ltb, eq-eqb, ne-eqb}
 use Rattle.calendar.specs.Calendar.{lastSecond}
 use Rattle.model.specs.State.{Clock, withClock}
-use Rattle.model.specs.Directives.{clockAt, clockStep}
+use Rattle.model.specs.Directives.{mostLeap, clockAt, clockStep}
 use Rattle.model.specs.Words.{writtenOver, read, ticksPerSecond, clockSet, seconds, ticksInto}
 use Rattle.model.specs.Sound.{sound}
 use Rattle.model.proofs.ClockSteps.{clock-unset}
@@ -115,8 +115,15 @@ module _ (t : List ℕ) (ok : sound t ≡ true) (m : ℕ) where
   abbrev c : Clock
   c = read t .clock
 
+  -- the ticks into the second and those to come, and how many whole seconds and ticks they are
   abbrev n : ℕ
   n = ticksInto t + m
+
+  abbrev q : ℕ
+  q = n / ticksPerSecond t
+
+  abbrev r : ℕ
+  r = n % ticksPerSecond t
 
   pub run-long : 10 ≤ length t
   run-long = omega (arith, h .long)
@@ -124,30 +131,35 @@ module _ (t : List ℕ) (ok : sound t ≡ true) (m : ℕ) where
   pub run-rate : 1 ≤ ticksPerSecond t
   run-rate = h .per-low
 
-  pub run-fits : m ≤ 1000000 → n ≤ 1000999
+  pub run-fits : m ≤ mostLeap → n ≤ 1000999
   run-fits few = omega (arith, h .into, h .per-high)
 
-  pub run-second-fits : m ≤ 1000000 → seconds t + n / ticksPerSecond t ≤ 3535452198
+  pub run-second-fits : m ≤ mostLeap → seconds t + q ≤ 3535452198
   run-second-fits few = omega (arith, run-fits few, div-le-self n (ticksPerSecond t), h .second-high)
 
-  pub run-unset : clockSet t ≢ 1 → t ≡ writtenOver (withClock (read t) (clockOn m c)) t
+  -- the table with its clock gone on
+  abbrev run : List ℕ
+  run = writtenOver (withClock (read t) (clockOn m c)) t
+
+  pub run-unset : clockSet t ≢ 1 → t ≡ run
   run-unset off =
       sym (ap (λ (d : Clock). writtenOver (withClock (read t) d) t) (clock-stands m c (clock-unset c (ne-eqb (clockSet t) 1 off))) ∙ sound-holds t ok .is)
 
   module _ (on : clockSet t ≡ 1) where
-    goes : (second into : ℕ) → clockOn m c ≡ clockAt c second into → set (set t 4 into) 3 second ≡ writtenOver (withClock (read t) (clockOn m c)) t
+    goes : (second into : ℕ) → clockOn m c ≡ clockAt c second into → set (set t 4 into) 3 second ≡ run
     goes second into e =
-        clock-moved t (read t) (sound-holds t ok .is) second into (eq-eqb (clockSet t) 1 on) ∙ ap (λ (d : Clock). writtenOver (withClock (read t) d) t) (sym e)
+        clock-moved t (read t) (sound-holds t ok .is) second into (eq-eqb (clockSet t) 1 on)
+        ∙ ap (λ (d : Clock). writtenOver (withClock (read t) d) t) (sym e)
 
-    small : n % ticksPerSecond t < ticksPerSecond t
+    parts : n ≡ q * ticksPerSecond t + r
+    parts = sym (div-add-mod' n (ticksPerSecond t))
+
+    small : r < ticksPerSecond t
     small = mod-lt n (h .per-low)
 
-    pub run-on : seconds t + n / ticksPerSecond t ≤ lastSecond → set (set t 4 (n % ticksPerSecond t)) 3 (seconds t + n / ticksPerSecond t) ≡ writtenOver (withClock (read t) (clockOn m c)) t
-    run-on p =
-        goes (seconds t + n / ticksPerSecond t) (n % ticksPerSecond t)
-        (clock-runs m (n / ticksPerSecond t) (n % ticksPerSecond t) c (eq-eqb (clockSet t) 1 on) (h .into) (sym (div-add-mod' n (ticksPerSecond t))) small p)
+    pub run-on : seconds t + q ≤ lastSecond → set (set t 4 r) 3 (seconds t + q) ≡ run
+    run-on p = goes (seconds t + q) r (clock-runs m q r c (eq-eqb (clockSet t) 1 on) (h .into) parts small p)
 
-    pub run-ends : lastSecond < seconds t + n / ticksPerSecond t → set (set t 4 (ticksPerSecond t - 1)) 3 lastSecond ≡ writtenOver (withClock (read t) (clockOn m c)) t
+    pub run-ends : lastSecond < seconds t + q → set (set t 4 (ticksPerSecond t - 1)) 3 lastSecond ≡ run
     run-ends p =
-        goes lastSecond (ticksPerSecond t - 1)
-        (clock-ends m (n / ticksPerSecond t) (n % ticksPerSecond t) c (eq-eqb (clockSet t) 1 on) (h .into) (sym (div-add-mod' n (ticksPerSecond t))) small (h .second-high) p)
+        goes lastSecond (ticksPerSecond t - 1) (clock-ends m q r c (eq-eqb (clockSet t) 1 on) (h .into) parts small (h .second-high) p)

@@ -20,7 +20,7 @@ use Rattle.model.proofs.KeptWellFormed.{tick-slots}
 use Rattle.links.specs.Places.{lastSlot}
 use Rattle.firing.specs.Lists.{Leaves}
 use Rattle.firing.proofs.Ticks.{tickedTo}
-use Rattle.leaping.specs.Leaps.{skipped, untilDue, Ready, Leaps}
+use Rattle.leaping.specs.Leaps.{skipped, untilDue, Ready, LeapLeaves}
 use Rattle.leaping.proofs.Until.{Until, until-due, skips-well-formed, leaps-at-once}
 
 -- a tick fires at no ticks left, and up to the second that the clock has come to
@@ -32,7 +32,7 @@ tick-is t list {limit} {second} {m} {u} {list′} e l at =
 
 module _ (t list : List ℕ) {end : ℕ} (r : Ready t list end) (k : ℕ) where
   -- a leap of none
-  pub none-done : k ≡ 0 → Leaps t list k 0 0 t list
+  pub none-done : k ≡ 0 → LeapLeaves t list k 0 0 t list
   none-done e =
       let l = ap (λ (n : ℕ). leapt n (read t)) (sym e) in
       record {
@@ -80,7 +80,7 @@ module _ (t list : List ℕ) {end : ℕ} (r : Ready t list end) (k : ℕ) where
         last = r .last ∙ ap (λ (z : State). lastSlot 0 (z .queue)) (sym here);
       }
 
-      pub leap-done : {m : ℕ} {v list′ : List ℕ} → Leaves u list (ticked (read u)) m v list′ → Leaps t list k m d v list′
+      pub leap-done : {m : ℕ} {v list′ : List ℕ} → Leaves u list (ticked (read u)) m v list′ → LeapLeaves t list k m d v list′
       leap-done {m} {v} {list′} l =
           let whole = sym (leaps-at-once k d s until) in
           record {

@@ -106,7 +106,8 @@ module _ (m : ℕ) (s : State) (f : WellFormed s) (ticks : All (λ w. m < w .wai
         (ap (λ (d : Clock). d .second) stands ∙ was .0, ap (λ (d : Clock). d .ticksInto) stands ∙ was .1, was .2);
     shape = f .shape;
     ticks = all-mapped (closerBy m) (λ w. 1 ≤ w .wait) (s .ticking) (all-map (λ w p. omega arith) (s .ticking) ticks);
-    dates = all-map (λ w p. (p .0, p .1 .1)) (s .dated) (all-zip (λ w. clockOn m (s .clock) .second < w .wait) (λ w. (s .clock .second < w .wait) × (w .wait ≤ lastSecond)) (s .dated) dates (f .dates));
+    dates = all-map (λ w p. (p .0, p .1 .1)) (s .dated) (all-zip (λ w. c .second < w .wait)
+        (λ w. (s .clock .second < w .wait) × (w .wait ≤ lastSecond)) (s .dated) dates (f .dates));
   }
 
 -- ---- one tick

@@ -211,3 +211,9 @@ module _ (k d : ℕ) (s : State) (u : Until k d s) where
       ap (λ (n : ℕ). leapt n s) parts ∙ leapt-skips (d - 1) (suc j) s far (u .dates)
       ∙ ap (further (d - 1)) (one-tick j s′ (λ p. u .stops (omega arith)))
       ∙ ap (λ (n : ℕ). record { state = tickedOnce s′; done = n; fired = withoutServer (s .slots) (dueInTick s′) }) total
+
+-- The law of the code: on a well-formed state a leap by k, if that is not 0, is the jump over all ticks but the last, and one tick; whatever kinds of
+-- timers there are.
+pub leap-is-jump-and-tick : (k : ℕ) → 1 ≤ k → (s : State) → WellFormed s → let d = untilDue k s in let s′ = skipped (d - 1) s in
+    leapt k s ≡ record { state = tickedOnce s′; done = d; fired = withoutServer (s .slots) (dueInTick s′) }
+leap-is-jump-and-tick k some s f = leaps-at-once k (untilDue k s) s (until-due k some s f)

@@ -41,7 +41,7 @@ pub record Ready (t list : List ℕ) (end : ℕ) : Type 0 where
   pub last : EndsAt t end
 
 -- the words are those that a leap by k leaves; how many fired, and how many ticks were done
-pub record Leaps (t list : List ℕ) (k count done : ℕ) (u list′ : List ℕ) : Type 0 where
+pub record LeapLeaves (t list : List ℕ) (k count done : ℕ) (u list′ : List ℕ) : Type 0 where
   pub table : u ≡ writtenOver (leapt k (read t) .state) t
   pub fired : count ≡ length (leapt k (read t) .fired)
   pub ticks : done ≡ leapt k (read t) .done

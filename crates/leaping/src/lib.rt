@@ -9,7 +9,7 @@ ghost use Rattle.model.specs.Directives.{mostLeap, ticked};
 ghost use Rattle.model.specs.Words.{read, writtenOver};
 ghost use Rattle.model.specs.Sound.{sound};
 ghost use Rattle.firing.specs.Lists.{Leaves};
-ghost use Rattle.leaping.specs.Leaps.{clockOn, skipped, untilTicks, untilDate, untilDue, Ready, Leaps};
+ghost use Rattle.leaping.specs.Leaps.{clockOn, skipped, untilTicks, untilDate, untilDue, Ready, LeapLeaves};
 use firing::come_nearer;
 use firing::fire;
 use firing::step_clock;
@@ -137,7 +137,7 @@ pub const MOST_LEAP: u32 = 1000000;
 // A leap by so many ticks: it stops after the first one in which a timer fires or is queued.
 pub fn leap(t: &mut [u32], most: u32, list: &mut [u32], end: u32) -> Gone
     requires { ⌜ Ready (now t) (now list) end × (most ≤ mostLeap) ⌝ }
-    ensures { λ r. ⌜ Leaps (now (t .entry)) (now (list .entry)) most (r .count) (r .done) (now (t .exit)) (now (list .exit)) ⌝ }
+    ensures { λ r. ⌜ LeapLeaves (now (t .entry)) (now (list .entry)) most (r .count) (r .done) (now (t .exit)) (now (list .exit)) ⌝ }
 {
     if most == 0 {
         return Gone { count: 0, done: 0 };

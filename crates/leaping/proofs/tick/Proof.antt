@@ -34,7 +34,8 @@ module _ (clock : tie.After-step-clock) where
       let r = entry .pre in
       clock-long _ _ (r .ok) (r .long) (r .last) (near fired .come-nearer .ensures) (fired .fire .ensures) (clock .step-clock .ensures)
 
-  stepped-room : (second : ℕ) → Room ByDate (clock .step-clock .last .0) (fired .fire .last .1 .0) second (fired .fire .result .count) (fired .fire .result .end)
+  stepped-room : (second : ℕ) → let f = fired .fire in
+      Room ByDate (clock .step-clock .last .0) (f .last .1 .0) second (f .result .count) (f .result .end)
   stepped-room =
       let r = entry .pre in
       clock-room _ _ (r .ok) (r .long) (r .last) (near fired .come-nearer .ensures) (fired .fire .ensures) (clock .step-clock .ensures)

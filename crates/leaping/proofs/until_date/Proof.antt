@@ -37,7 +37,8 @@ ticks-away-requires c κs =
     let some = c .before .before .before .before in
     let e = some .before .before .before in
     let h = sound-header (e .args .t .now) (e .pre) in
-    (omega (arith, date-later (e .args .t .now) (e .pre) (some .if1 .left), c .before .before .before .get .ensures), omega (arith, h .per-high), omega (arith, h .into))
+    let later = date-later (e .args .t .now) (e .pre) (some .if1 .left) in
+    (omega (arith, later, c .before .before .before .get .ensures), omega (arith, h .per-high), omega (arith, h .into))
 
 wide-requires : tie.Need-wide-requires
 wide-requires c κs = search needs
