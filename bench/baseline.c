@@ -729,46 +729,42 @@ uint32_t CALL(serve)(uint32_t *table, size_t words, uint32_t *served, size_t ser
     return HC_SUCCESSFUL;
 }
 
-/* Of so many ticks, 1 or more, the number of those before the last, and before the first in which a timer is due. */
-static inline uint32_t empty_ticks(const uint32_t *table, uint32_t ticks)
+/* The ticks until the first timer is due; UINT64_MAX if none waits. */
+static inline uint64_t ticks_to_due(const uint32_t *table)
 {
-    uint32_t last = ticks;
-    if (table[FIRST_TICKING]) {
-        uint32_t left = slot_of(table, table[FIRST_TICKING])[WAIT];
-        if (left < last)
-            last = left;
-    }
+    uint64_t ticks = UINT64_MAX;
+    if (table[FIRST_TICKING])
+        ticks = slot_of(table, table[FIRST_TICKING])[WAIT];
     if (table[FIRST_DATED]) {
-        int64_t left = moved_by(table, slot_of(table, table[FIRST_DATED])[WAIT], 0);
-        if (left < last)
-            last = (uint32_t)left;
+        uint64_t seconds = slot_of(table, table[FIRST_DATED])[WAIT] - table[SECONDS];
+        uint64_t to_date = seconds * table[TICKS_PER_SECOND] - table[CLOCK_TICKS];
+        if (to_date < ticks)
+            ticks = to_date;
     }
-    return last - 1;
+    return ticks;
 }
 
 /* So many ticks pass in which no timer is due. At its last tick the clock stands still. */
-static inline void jump(uint32_t *table, uint32_t ticks)
+static inline void pass_empty_ticks(uint32_t *table, uint32_t ticks)
 {
     if (table[FIRST_TICKING])
         slot(table, table[FIRST_TICKING])[WAIT] -= ticks;
     if (!table[CLOCK_SET])
         return;
     uint32_t into = table[CLOCK_TICKS] + ticks;
-    if (into < table[TICKS_PER_SECOND]) {
-        table[CLOCK_TICKS] = into;
-        return;
+    if (into >= table[TICKS_PER_SECOND]) {
+        uint32_t seconds = into / table[TICKS_PER_SECOND];
+        into %= table[TICKS_PER_SECOND];
+        table[SECONDS] += seconds;
+        if (table[SECONDS] > LAST_SECOND) {
+            table[SECONDS] = LAST_SECOND;
+            into = table[TICKS_PER_SECOND] - 1;
+        }
     }
-    uint32_t seconds = table[SECONDS] + into / table[TICKS_PER_SECOND];
-    if (seconds > LAST_SECOND) {
-        table[SECONDS] = LAST_SECOND;
-        table[CLOCK_TICKS] = table[TICKS_PER_SECOND] - 1;
-        return;
-    }
-    table[SECONDS] = seconds;
-    table[CLOCK_TICKS] = into % table[TICKS_PER_SECOND];
+    table[CLOCK_TICKS] = into;
 }
 
-/* A jump over the ticks in which nothing is due, and one tick more. */
+/* A jump over the ticks in which no timer is due, and where one is due within all of them, one tick more. */
 uint32_t CALL(leap)(uint32_t *table, size_t words, uint32_t ticks, uint32_t *fired, size_t fired_words, uint32_t *done,
                     uint32_t *count)
 {
@@ -781,11 +777,14 @@ uint32_t CALL(leap)(uint32_t *table, size_t words, uint32_t ticks, uint32_t *fir
         return HC_LIST_TOO_SHORT;
     if (ticks > HC_MOST_LEAP)
         return HC_INVALID_NUMBER;
-    if (ticks == 0)
+    uint64_t due = ticks_to_due(table);
+    if (ticks < due) {
+        pass_empty_ticks(table, ticks);
+        *done = ticks;
         return HC_SUCCESSFUL;
-    uint32_t empty = empty_ticks(table, ticks);
-    jump(table, empty);
-    *done = empty + 1;
+    }
+    pass_empty_ticks(table, (uint32_t)due - 1);
+    *done = (uint32_t)due;
     *count = table[SERVER] ? pass_server_tick(table, last_queued, fired) : pass_tick(table, false, 0, fired);
     return HC_SUCCESSFUL;
 }
