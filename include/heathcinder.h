@@ -204,9 +204,9 @@ uint32_t hc_server_fire_when(uint32_t *table, size_t words, uint32_t id, const s
 uint32_t hc_serve(uint32_t *table, size_t words, uint32_t *served, size_t served_words, uint32_t *count);
 
 /* So many ticks pass, each as by hc_tick and counted as an accepted one; but the leap ends with the first in which a timer
- * fires or is queued. Answers the ticks done, and how many timers are listed: those of the last tick, no other lists any. A
- * tick that only queues ends it too, with a count of 0. Takes about as long as one hc_tick, however many ticks are done. With
- * ticks 0 nothing changes, and both answers are 0.
+ * fires or is queued. Answers the ticks done, and how many timers the last of them lists: 0 where it only queues. Those before
+ * it list none, and list words after the listed ones stay. With ticks 0 nothing changes, and both answers are 0. It takes
+ * about as long as one hc_tick, however many ticks are done.
  * HC_LIST_TOO_SHORT: fewer than HC_LIST_WORDS(N) words of list, whatever the ticks. HC_INVALID_NUMBER: ticks above
  * HC_MOST_LEAP. */
 uint32_t hc_leap(uint32_t *table, size_t words, uint32_t ticks, uint32_t *fired, size_t fired_words, uint32_t *done,

@@ -175,7 +175,7 @@ static void leap(void)
     if (came.done > ONE_BY_ONE)
         pass(came.done - 1);
     else
-        for (uint32_t i = 1; i < came.done; i++)
+        for (uint32_t i = 1; i < came.done && fired_count == 0; i++)
             pass(1);
     if (fired_count > 0)
         fail("expected fewer ticks done, since libuv's timers fire before, came %" PRIu32, came.done);
