@@ -1,6 +1,6 @@
-/* A simulator passes a lunch break of an hour, 360,000 ticks, in as many calls as something happens in it. A leap goes up to the
- * first tick in which a timer fires or is queued, so it is called again with the ticks that are left; what it leaves is what
- * single ticks would have. Every status is read. */
+/* A simulator passes a lunch break of an hour, 360,000 ticks, in five calls. A leap goes up to the first tick in which a timer
+ * fires or is queued, so it is called again with the ticks that are left; table and list are those of single ticks. Every
+ * status is read. */
 #include "heathcinder.h"
 
 #include <stdbool.h>
