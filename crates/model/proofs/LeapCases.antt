@@ -59,7 +59,7 @@ leapCases =
     (unlent 3 ++ (replicate 5 99 ∷ [] ∷ replicate 5 99 ∷ six ∷ (one ∷ 7 ∷ 70 ∷ replicate 6 99) ∷ []))
     (2 ∷ 10 ∷ replicate 8 0 ++ (2 ∷ 1 ∷ 1 ∷ 0 ∷ 7 ∷ 70 ∷ 0 ∷ 0 ∷ replicate 8 0))
     -- A table that is not sound: 100 before all else.
-    ∷ calls (1 ∷ 10 ∷ 2 ∷ replicate 15 0) (leap 1000001 [] ∷ leap 0 three ∷ []) (refusal 100 ∷ refusal 100 ∷ []) ([] ∷ three ∷ []) (1 ∷ 10 ∷ 2 ∷ replicate 15 0)
+    ∷ calls (1 ∷ 10 ∷ 2 ∷ replicate 15 0) (leap 1000001 [] ∷ leap 1000001 three ∷ leap 0 three ∷ []) (replicate 3 (refusal 100)) ([] ∷ three ∷ three ∷ []) (1 ∷ 10 ∷ 2 ∷ replicate 15 0)
     -- It stops after a tick that only queues a timer, with count 0, and goes on from there to the one that fires. A serve hands out the queued one.
     ∷ calls (replicate 26 0)
     (layOut 2 10 ∷ create 1 ∷ create 2 ∷ initiateServer ∷ fireAfter one 5 7 70 ∷ serverFireAfter two 3 8 80 ∷ leap 2 six ∷ leap 9 six ∷ leap 9 six

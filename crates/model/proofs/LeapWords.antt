@@ -17,7 +17,7 @@ use Rattle.model.specs.Words.{writtenOver, links, read, slotCount}
 use Rattle.model.specs.Sound.{sound}
 use Rattle.model.specs.Outcome.{Outcome, outcomeOf, statusOn, accepted, written, outcome}
 use Rattle.model.specs.Demand.{after, ticksDone, firstNumber, TickGives, EmptyTick, Leaps}
-use Rattle.model.specs.Leap.{withTicksBefore, LeapsAdd}
+use Rattle.model.specs.Leap.{withTicksBefore, LeapsAdd, LeapTakes, LeapIsItsTicks}
 use Rattle.model.proofs.ListLaws.{cases, not-leb}
 use Rattle.model.proofs.ReadBack.{slots-length, over-over}
 use Rattle.model.proofs.SoundHolds.{sound-holds}
@@ -264,12 +264,26 @@ leap-ready t ok k list e =
     let p = accepted-facts t (read t) (leap k list) (sym (status-is t (leap k list)) ∙ e) in
     (record { is-sound = ok; long = p .0 }, p .1)
 
+-- it is accepted on sound tables only
+leap-sound : (t : List ℕ) (k : ℕ) (list : List ℕ) → statusOn t (leap k list) ≡ 0 → sound t ≡ true
+leap-sound t k list e =
+    cases (sound t) (λ y. y) (λ n. absurd (let h : 100 ≡ 0 = sym (rw n) ∙ sym (status-is t (leap k list)) ∙ e in omega arith))
+
+pub leap-takes : LeapTakes
+leap-takes t k list = outcome-status t (leap k list) ∙ leap-status t k list
+
+pub leap-is-its-ticks : LeapIsItsTicks
+leap-is-its-ticks t k list e =
+    let z : statusOn t (leap k list) ≡ 0 = sym (outcome-status t (leap k list)) ∙ e in
+    let r = leap-ready t (leap-sound t k list z) k list z in
+    leaps list k (r .1) t (r .0)
+
 module _ (t list : List ℕ) (a b : ℕ) (few : a + b ≤ mostLeap) (e : outcome t (leap a list) .status ≡ 0) where
   status-a : statusOn t (leap a list) ≡ 0
   status-a = sym (outcome-status t (leap a list)) ∙ e
 
   sound-a : sound t ≡ true
-  sound-a = cases (sound t) (λ y. y) (λ n. absurd (let h : 100 ≡ 0 = sym (rw n) ∙ sym (status-is t (leap a list)) ∙ status-a in omega arith))
+  sound-a = leap-sound t a list status-a
 
   ready-a : Ready list t
   ready-a = leap-ready t sound-a a list status-a .0

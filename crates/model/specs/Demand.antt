@@ -83,7 +83,7 @@ pub record Begins (list lent : List ℕ) (fs : List Fired) : Type 0 where
 
 -- What the accepted call c, which is the event e, has to list on the table t after these events: the timers that fire in it, those due in this
 -- call and not ended before, interval ones first, each kind in firing order. A tick and a set clock answer their number, no other call fires
--- any, and there are never more than slots. A serve lists the front of the queue, if there is one, and answers how many it lists.
+-- any (a leap is its ticks), and there are never more than slots. A serve lists the front of the queue, if there is one, and answers how many it lists.
 pub record Lists (t : List ℕ) (es : List Event) (c : Call) (e : Event) : Type 0 where
   pub ticking : List Placed
   pub dated : List Placed

@@ -232,7 +232,7 @@ pub record Leapt : Type 0 where
   pub done : ℕ
   pub fired : List Link
 
--- no timer is due in a tick
+-- no timer is due in the next tick
 abbrev pub isQuiet : State → Bool
 isQuiet s = eqb (length (dueInTick s)) 0
 
