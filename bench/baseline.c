@@ -729,6 +729,66 @@ uint32_t CALL(serve)(uint32_t *table, size_t words, uint32_t *served, size_t ser
     return HC_SUCCESSFUL;
 }
 
+/* The ticks until the first timer is due; UINT64_MAX if none waits. */
+static inline uint64_t ticks_to_due(const uint32_t *table)
+{
+    uint64_t ticks = UINT64_MAX;
+    if (table[FIRST_TICKING])
+        ticks = slot_of(table, table[FIRST_TICKING])[WAIT];
+    if (table[FIRST_DATED]) {
+        uint64_t seconds = slot_of(table, table[FIRST_DATED])[WAIT] - table[SECONDS];
+        uint64_t to_date = seconds * table[TICKS_PER_SECOND] - table[CLOCK_TICKS];
+        if (to_date < ticks)
+            ticks = to_date;
+    }
+    return ticks;
+}
+
+/* So many ticks pass in which no timer is due. At its last tick the clock stands still. */
+static inline void pass_empty_ticks(uint32_t *table, uint32_t ticks)
+{
+    if (table[FIRST_TICKING])
+        slot(table, table[FIRST_TICKING])[WAIT] -= ticks;
+    if (!table[CLOCK_SET])
+        return;
+    uint32_t into = table[CLOCK_TICKS] + ticks;
+    if (into >= table[TICKS_PER_SECOND]) {
+        uint32_t seconds = into / table[TICKS_PER_SECOND];
+        into %= table[TICKS_PER_SECOND];
+        table[SECONDS] += seconds;
+        if (table[SECONDS] > LAST_SECOND) {
+            table[SECONDS] = LAST_SECOND;
+            into = table[TICKS_PER_SECOND] - 1;
+        }
+    }
+    table[CLOCK_TICKS] = into;
+}
+
+/* A jump over the ticks in which no timer is due, and where one is due within all of them, one tick more. */
+uint32_t CALL(leap)(uint32_t *table, size_t words, uint32_t ticks, uint32_t *fired, size_t fired_words, uint32_t *done,
+                    uint32_t *count)
+{
+    *done = 0;
+    *count = 0;
+    uint32_t last_queued = check(table, words);
+    if (last_queued == NOT_SOUND)
+        return HC_NOT_SOUND;
+    if (fired_words < FIRED_WORDS * table[SLOTS])
+        return HC_LIST_TOO_SHORT;
+    if (ticks > HC_MOST_LEAP)
+        return HC_INVALID_NUMBER;
+    uint64_t due = ticks_to_due(table);
+    if (ticks < due) {
+        pass_empty_ticks(table, ticks);
+        *done = ticks;
+        return HC_SUCCESSFUL;
+    }
+    pass_empty_ticks(table, (uint32_t)due - 1);
+    *done = (uint32_t)due;
+    *count = table[SERVER] ? pass_server_tick(table, last_queued, fired) : pass_tick(table, false, 0, fired);
+    return HC_SUCCESSFUL;
+}
+
 /* ---- Packing a break ---- */
 
 static bool jobs_within(const uint32_t *jobs, size_t job_words, uint32_t break_ticks)

@@ -44,6 +44,8 @@ uint32_t CALL(server_fire_after)(uint32_t *table, size_t words, uint32_t id, uin
 uint32_t CALL(server_fire_when)(uint32_t *table, size_t words, uint32_t id, const struct hc_wall_time *when,
                                 uint32_t routine, uint32_t data);
 uint32_t CALL(serve)(uint32_t *table, size_t words, uint32_t *served, size_t served_words, uint32_t *count);
+uint32_t CALL(leap)(uint32_t *table, size_t words, uint32_t ticks, uint32_t *fired, size_t fired_words, uint32_t *done,
+                    uint32_t *count);
 uint32_t CALL(plan_check)(const uint32_t *jobs, size_t job_words, uint32_t break_ticks, const uint32_t *starts, size_t count);
 uint32_t CALL(plan)(const uint32_t *jobs, size_t job_words, uint32_t break_ticks, uint32_t *starts, size_t starts_words);
 

@@ -34,16 +34,17 @@ struct side {
     uint32_t (*server_fire_after)(uint32_t *, size_t, uint32_t, uint32_t, uint32_t, uint32_t);
     uint32_t (*server_fire_when)(uint32_t *, size_t, uint32_t, const struct hc_wall_time *, uint32_t, uint32_t);
     uint32_t (*serve)(uint32_t *, size_t, uint32_t *, size_t, uint32_t *);
+    uint32_t (*leap)(uint32_t *, size_t, uint32_t, uint32_t *, size_t, uint32_t *, uint32_t *);
 };
 
 static const struct side library = {hc_lay_out, hc_create, hc_ident, hc_cancel, hc_delete, hc_fire_after,
                                     hc_fire_when, hc_fire_every, hc_reset, hc_ticks_left, hc_next_due, hc_tick, hc_set_clock,
                                     hc_get_clock, hc_initiate_server, hc_server_fire_after, hc_server_fire_when,
-                                    hc_serve};
+                                    hc_serve, hc_leap};
 static const struct side plain = {plain_lay_out, plain_create, plain_ident, plain_cancel, plain_delete, plain_fire_after,
                                   plain_fire_when, plain_fire_every, plain_reset, plain_ticks_left, plain_next_due, plain_tick,
                                   plain_set_clock, plain_get_clock, plain_initiate_server, plain_server_fire_after,
-                                  plain_server_fire_when, plain_serve};
+                                  plain_server_fire_when, plain_serve, plain_leap};
 
 static uint32_t no_change(uint32_t *t, size_t n, uint32_t id) { return (void)t, (void)n, (void)id, 0; }
 static uint32_t no_answer(const uint32_t *t, size_t n, uint32_t x, uint32_t *a)
@@ -72,15 +73,19 @@ static uint32_t no_set_clock(uint32_t *t, size_t n, const struct hc_wall_time *w
 static uint32_t no_get_clock(const uint32_t *t, size_t n, struct hc_wall_time *w) { return (void)t, (void)n, (void)w, 0; }
 static uint32_t no_initiate(uint32_t *t, size_t n) { return (void)t, (void)n, 0; }
 static uint32_t no_next_due(const uint32_t *t, size_t n, uint32_t *a) { return (void)t, (void)n, (void)a, 0; }
+static uint32_t no_leap(uint32_t *t, size_t n, uint32_t k, uint32_t *l, size_t m, uint32_t *d, uint32_t *a)
+{
+    return (void)t, (void)n, (void)k, (void)l, (void)m, (void)d, (void)a, 0;
+}
 
 static const struct side nothing = {no_lay_out, no_create, no_answer, no_change, no_change, no_fire_after, no_fire_when,
                                     no_fire_after, no_change, no_answer, no_next_due, no_tick, no_set_clock, no_get_clock,
-                                    no_initiate, no_fire_after, no_fire_when, no_tick};
+                                    no_initiate, no_fire_after, no_fire_when, no_tick, no_leap};
 static const struct sides sides = {&library, &plain, &nothing};
 
 /* ---- What every case works on: the table, the answers, and the timers it is about ---- */
 
-static uint32_t table[WORDS], start_table[WORDS], list[LIST], answer;
+static uint32_t table[WORDS], start_table[WORDS], list[LIST], answer, done;
 static int64_t moved;
 static struct hc_wall_time now_answer;
 static const struct hc_wall_time present = {2024, 2, 29, 12, 0, 0, 0};
@@ -133,6 +138,7 @@ static uint32_t do_server_fire_when(const struct side *s)
     return s->server_fire_when(table, words, ID(dated), &dates[dated], ROUTINE_NUMBER, 0);
 }
 static uint32_t do_serve(const struct side *s) { return s->serve(table, words, list, HC_SERVED_WORDS, &answer); }
+static uint32_t do_leap(const struct side *s) { return s->leap(table, words, HC_MOST_LEAP, list, LIST, &done, &answer); }
 static uint32_t do_cancel_queued(const struct side *s) { return s->cancel(table, words, ID(queued)); }
 
 static uint32_t *slot(uint32_t index)
@@ -203,15 +209,19 @@ static void start_ticks(uint32_t index, uint32_t ticks)
     must("fire after", plain_fire_after(table, words, ID(index), ticks, ROUTINE_NUMBER, index));
 }
 
+static bool beyond_leap;    /* starts are for more ticks than a leap takes, and dates for the next day */
+
 /* For two ticks or more, so that the next tick does not fire it. */
 static void start_far(uint32_t index)
 {
-    start_ticks(index, 2 + below(4 * slots));
+    start_ticks(index, (beyond_leap ? HC_MOST_LEAP : 0) + 2 + below(4 * slots));
 }
 
 static void choose_date(uint32_t index)
 {
     dates[index] = present;
+    if (beyond_leap)
+        dates[index].month = 3, dates[index].day = 1;
     dates[index].minute = 1 + below(50), dates[index].second = below(60), dates[index].ticks = index % RATE;
 }
 
@@ -372,8 +382,9 @@ static void choose_queued(void)
     queued = nth_of_chain(FIRST_QUEUED, chain_length(FIRST_QUEUED) / 2);
 }
 
-/* Of eight slots one is free, one never started, two idle, two wait for ticks and two for a date; or all wait for ticks, each
- * for its own; or all for the next tick; or all are periodic with one interval, or a quarter of them.
+/* Of eight slots one is free, one never started, two idle, two wait for ticks and two for a date, and the same with none due
+ * in a leap; or all wait for ticks, each for its own; or all for the next tick; or all are periodic with one interval, or a
+ * quarter of them.
  * With the server: of eight slots one is free, one never started, one idle, one queued, two wait for ticks and two for a
  * date, one of each two for the server; or all wait for ticks, each for its own; or all for the next tick, or a quarter of
  * them; or all for a date; or all but one are queued, and that one is due at the next tick. */
@@ -381,7 +392,8 @@ static const struct filling {
     const char *name;
     bool server;
     void (*start)(uint32_t index), (*choose)(void);
-} mixed = {"mixed", false, start_mixed, choose_mixed}, full = {"full", false, start_far, choose_worst},
+} mixed = {"mixed", false, start_mixed, choose_mixed}, far = {"far", false, start_mixed, choose_mixed},
+  full = {"full", false, start_far, choose_worst},
   due = {"due", false, start_at_once, choose_worst}, periodic = {"periodic", false, start_every, choose_worst},
   quarter = {"quarter", false, start_every_fourth, choose_worst},
   server = {"server", true, start_mixed_server, choose_mixed_server},
@@ -395,7 +407,7 @@ static void build(uint32_t how_many, const struct filling *filling)
 {
     uint32_t order[MAX_SLOTS];
     random_state = 12345;
-    slots = how_many, words = HC_TABLE_WORDS(slots);
+    slots = how_many, words = HC_TABLE_WORDS(slots), beyond_leap = filling == &far;
     must("lay out", plain_lay_out(table, words, slots, RATE));
     must("set clock", plain_set_clock(table, words, &present, list, LIST, &answer, &moved));
     if (filling->server)
@@ -447,13 +459,16 @@ static const struct bench {
     {"tick, a timer is queued (queued)", do_tick, &in_queue, NULL},
     {"tick, all are queued (server due)", do_tick, &server_due, NULL},
     {"tick, a quarter is queued (server quarter)", do_tick, &server_quarter, NULL},
-    {"set_clock, all are queued (server dated)", do_set_clock, &server_dated, NULL}};
+    {"set_clock, all are queued (server dated)", do_set_clock, &server_dated, NULL}, {"tick (far)", do_tick, &far, NULL},
+    {"leap over 1000000 empty ticks (far)", do_leap, &far, NULL},
+    {"leap, a timer fires at once", do_leap, &mixed, next_tick_fires},
+    {"leap, a timer is queued at once (queued)", do_leap, &in_queue, NULL}};
 
 /* ---- Both sides do the same ---- */
 
 /* All that a call can change. */
 struct state {
-    uint32_t status, answer, table[WORDS], list[LIST];
+    uint32_t status, answer, done, table[WORDS], list[LIST];
     int64_t moved;
     struct hc_wall_time clock;
 };
@@ -465,9 +480,9 @@ static void call_once(const struct bench *bench, const struct side *side, struct
     if (bench->prepare)
         bench->prepare();
     memset(list, 0x55, sizeof list);
-    answer = 0, moved = 0, memset(&now_answer, 0, sizeof now_answer);
+    answer = 0, done = 0, moved = 0, memset(&now_answer, 0, sizeof now_answer);
     after->status = bench->call(side);
-    after->answer = answer, after->moved = moved, after->clock = now_answer;
+    after->answer = answer, after->done = done, after->moved = moved, after->clock = now_answer;
     memcpy(after->table, table, sizeof table), memcpy(after->list, list, sizeof list);
 }
 

@@ -68,8 +68,8 @@ extern "C" {
 #define HC_TOO_MANY 5u         /* create: no slot is free */
 #define HC_INVALID_SIZE 8u     /* lay out: fewer than 10 + 8N words; plan: fewer words of list than jobs */
 #define HC_INVALID_ADDRESS 9u  /* fire after, fire when, fire every, server fire after, server fire when: routine 0 */
-#define HC_INVALID_NUMBER 10u  /* fire after, fire every, server fire after: ticks 0; lay out, plan, plan check: a number
-                                  outside its limits; plan check: not one start a job */
+#define HC_INVALID_NUMBER 10u  /* fire after, fire every, server fire after: ticks 0; leap: more than 1,000,000; lay out,
+                                  plan, plan check: a number outside its limits; plan check: not one start a job */
 #define HC_NOT_DEFINED 11u     /* fire when, server fire when, get clock: clock not set; reset: not last started by
                                   interval */
 #define HC_UNSATISFIED 13u     /* plan check: the plan does not fit; plan: no plan does */
@@ -78,13 +78,16 @@ extern "C" {
 #define HC_INVALID_CLOCK 20u   /* set clock, fire when, server fire when: date not valid; set clock: ticks of T or more;
                                   fire when, server fire when: not after the present second */
 #define HC_NOT_SOUND 100u      /* any call on a table but lay out: it is not sound; next due: what it reads is not */
-#define HC_LIST_TOO_SHORT 101u /* tick, set clock: fewer than 3N words of list; serve: fewer than 3 */
+#define HC_LIST_TOO_SHORT 101u /* tick, leap, set clock: fewer than 3N words of list; serve: fewer than 3 */
 
-/* Words that a table of so many slots takes, words of list that a tick or set clock on it needs, and those that a serve
+/* Words that a table of so many slots takes, words of list that a tick, leap or set clock on it needs, and those that a serve
  * needs, on any table. */
 #define HC_TABLE_WORDS(slots) (10u + 8u * (slots))
 #define HC_LIST_WORDS(slots) (3u * (slots))
 #define HC_SERVED_WORDS 3u
+
+/* The most ticks that one leap takes. */
+#define HC_MOST_LEAP 1000000u
 
 /* Years 1988 to 2099, months and days from 1; no time zone, no leap seconds. The ticks field counts ticks into the second:
  * hc_set_clock takes it, below T, and hc_get_clock gives it; hc_fire_when and hc_server_fire_when ignore it. */
@@ -94,8 +97,8 @@ struct hc_wall_time {
 
 /* Each call gives its status as the result: HC_NOT_SOUND where the table is not sound (but for hc_lay_out and, which has a
  * rule of its own, hc_next_due), then the first that applies in the order named with the call, else HC_SUCCESSFUL. The answer
- * of a call on a table goes through the last pointer, and the two of hc_set_clock through the last two; on a refusal they are
- * 0, and table and list stay as they were. */
+ * of a call on a table goes through the last pointer, and the two of hc_set_clock and hc_leap through the last two; on a
+ * refusal they are 0, and table and list stay as they were. */
 
 /* Makes a table of so many free slots, clock not set, server not initiated; words is the length lent.
  * HC_INVALID_NUMBER: slots not 1 to 255, or ticks_per_second not 1 to 1000. HC_INVALID_SIZE: fewer than
@@ -199,6 +202,15 @@ uint32_t hc_server_fire_when(uint32_t *table, size_t words, uint32_t id, const s
  * list. Answers 1, or 0 where none is queued and no word changes; list words after the three stay.
  * HC_LIST_TOO_SHORT: fewer than HC_SERVED_WORDS words of list. HC_INCORRECT_STATE: server not initiated. */
 uint32_t hc_serve(uint32_t *table, size_t words, uint32_t *served, size_t served_words, uint32_t *count);
+
+/* So many ticks pass, each as by hc_tick and counted as an accepted one; but the leap ends with the first in which a timer
+ * fires or is queued. Answers the ticks done, and how many timers the last of them lists: 0 where it only queues. Those before
+ * it list none, and list words after the listed ones stay. With ticks 0 nothing changes, and both answers are 0. It takes
+ * about as long as one hc_tick, however many ticks are done.
+ * HC_LIST_TOO_SHORT: fewer than HC_LIST_WORDS(N) words of list, whatever the ticks. HC_INVALID_NUMBER: ticks above
+ * HC_MOST_LEAP. */
+uint32_t hc_leap(uint32_t *table, size_t words, uint32_t ticks, uint32_t *fired, size_t fired_words, uint32_t *done,
+                 uint32_t *count);
 
 /* Packing a break, which takes no table. Jobs are words, two a job: its bench, 1 to 4, and its length in ticks, 1 to
  * 1,000,000; job_words is their number. The break has break_ticks ticks, up to 1,000,000. A plan is one start tick a job,

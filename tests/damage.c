@@ -219,7 +219,7 @@ static void expect_next_due(bool sound)
              expected.status, expected.answer);
 }
 
-static void expect(const struct call *c)
+static void expect(struct call *c)
 {
     uint32_t kinds;
     uint64_t broken = oracle_broken(table, slice, &kinds);
@@ -235,8 +235,10 @@ static void expect(const struct call *c)
         note_alone(broken, kinds);
         return;
     }
-    if (!broken)
+    if (!broken) {
         oracle_decode(table, &served);
+        afford_leap(&served, c);
+    }
     oracle_call(&served, c, &expected);     /* a lay out does not look at the state before it */
     harmless += !broken;
 }

@@ -13,9 +13,10 @@ _Static_assert(HC_SUCCESSFUL == 0 && HC_INVALID_NAME == 3 && HC_INVALID_ID == 4 
                "the header's statuses have the specification's numbers");
 _Static_assert(sizeof(struct hc_wall_time) == 7 * sizeof(uint32_t), "a wall time is seven words");
 _Static_assert(HC_TABLE_WORDS(255) == 2050 && HC_LIST_WORDS(255) == 765 && HC_SERVED_WORDS == 3, "the header's lengths");
+_Static_assert(HC_MOST_LEAP == 1000000, "the most ticks of a leap");
 
 enum { SLOTS = 3, WORDS = HC_TABLE_WORDS(SLOTS), LIST = HC_LIST_WORDS(SLOTS), ONE_SLOT_WORDS = HC_TABLE_WORDS(1) };
-static uint32_t table[WORDS], list[LIST], answer;
+static uint32_t table[WORDS], list[LIST], answer, done;
 static int64_t moved;
 static const uint32_t one = ID_BASE + 1, two = ID_BASE + 2, three = ID_BASE + 3;
 static unsigned checks;
@@ -56,7 +57,7 @@ static uint32_t make(struct call c)
     place.call = &c;
     perform(&c, table, list, &came);
     place.call = NULL;
-    answer = came.answer, moved = came.moved;
+    answer = came.answer, done = came.done, moved = came.moved;
     if (came.beside)
         fail("expected the words beside the answers and the wall time given to stay, came a change");
     return came.status;
@@ -143,6 +144,11 @@ static uint32_t serve(size_t length)
     uint32_t status = make((struct call){.kind = SERVE});
     list_length = LIST;
     return status;
+}
+
+static uint32_t leap(uint32_t ticks)
+{
+    return make((struct call){.kind = LEAP, .ticks = ticks});
 }
 
 /* ---- The cases ---- */
@@ -1188,6 +1194,331 @@ static void next_slices(void)
         is("so many words for N 1", length < HC_TABLE_WORDS(1) ? HC_NOT_SOUND : 0, hc_next_due(big, length, &ticks));
 }
 
+/* ---- Leaps ---- */
+
+/* A leap of so many ticks does this many, lists so many timers, and leaves the rest of the list. */
+static void leaps(uint32_t ticks, uint32_t ticks_done, uint32_t count)
+{
+    fill_list();
+    is("leap", 0, leap(ticks));
+    is("ticks done", ticks_done, done);
+    is("timers listed", count, answer);
+    list_stays(FIRED_WORDS * count);
+}
+
+/* A leap of so many ticks does this many, and lists this timer alone. */
+static void leaps_to(uint32_t ticks, uint32_t ticks_done, uint32_t id)
+{
+    leaps(ticks, ticks_done, 1);
+    is("it fires", id, list[FIRED_ID]);
+    is("its routine", word_of(id, SLOT_ROUTINE), list[FIRED_ROUTINE]);
+    is("its data", word_of(id, SLOT_DATA), list[FIRED_DATA]);
+}
+
+static void left_is(uint32_t id, uint32_t ticks)
+{
+    is("ticks left", 0, ticks_left(id));
+    is("ticks left", ticks, answer);
+}
+
+/* A leap is refused with this status, or is of no ticks: no word changes, and both answers are 0. */
+static void leap_changes_nothing(const char *what, uint32_t status, uint32_t ticks)
+{
+    uint32_t before[WORDS];
+    memcpy(before, table, sizeof before);
+    fill_list();
+    is(what, status, leap(ticks));
+    is("ticks done by a leap that does none", 0, done);
+    is("timers listed by a leap that does no ticks", 0, answer);
+    for (uint32_t i = 0; i < WORDS; i++)
+        is("word of the table after a leap that does no ticks", before[i], table[i]);
+    list_stays(0);
+}
+
+/* 100 comes first, then 101, then 10; a timer that is due at the next tick stays so. */
+static void order_of_leap(void)
+{
+    static const uint32_t ticks[] = {0, 1, 5, 1000000, 1000001, 4294967295u};
+    fresh();
+    is("set clock", 0, set_clock(with_ticks(noon, 9)));
+    is("fire after 1", 0, fire_after(one, 1, 7, 70));
+    is("fire when a second later", 0, fire_when(two, at(2000, 1, 1, 12, 0, 1)));
+    leap_changes_nothing("leap, 1000001 ticks", 10, 1000001);
+    leap_changes_nothing("leap, 2147483648 ticks", 10, 2147483648u);
+    leap_changes_nothing("leap, 4294967295 ticks", 10, 4294967295u);
+    for (size_t i = 0; i < sizeof ticks / sizeof *ticks; i++) {
+        list_length = LIST - 1;
+        leap_changes_nothing("leap, a word of list too few", 101, ticks[i]);
+        list_length = 0;
+        leap_changes_nothing("leap, no list", 101, ticks[i]);
+        table[HEADER_ZERO] = 1;
+        leap_changes_nothing("leap, not sound, no list", 100, ticks[i]);
+        list_length = LIST;
+        leap_changes_nothing("leap, not sound", 100, ticks[i]);
+        table[HEADER_ZERO] = 0, words = WORDS - 1;
+        leap_changes_nothing("leap, a word of table too few", 100, ticks[i]);
+        words = WORDS;
+    }
+    leap_changes_nothing("leap, no ticks", 0, 0);
+    leaps(1000000, 1, 2);
+    is("the interval timer first", one, list[fired_at(0, FIRED_ID)]);
+    is("then the dated one", two, list[fired_at(1, FIRED_ID)]);
+    clock_is(1, 0);
+    leap_changes_nothing("leap, no ticks, none waits", 0, 0);
+    leap_changes_nothing("leap, 1000001 ticks, none waits", 10, 1000001);
+}
+
+/* Short of the tick in which a timer is due, up to it, and further. */
+static void leap_to_a_timer(void)
+{
+    static const uint32_t ticks[] = {5, 6, 7, 1000, 999999, 1000000};
+    fresh();
+    is("fire after 5", 0, fire_after(one, 5, 7, 70));
+    leaps(4, 4, 0);
+    left_is(one, 1);
+    leap_changes_nothing("leap, no ticks", 0, 0);
+    leaps_to(1, 1, one);
+    is("it fired", KIND_IDLE_TICKING, kind(1));
+    is("word 5", 0, table[HEADER_FIRST_TICKING]);
+    for (size_t i = 0; i < sizeof ticks / sizeof *ticks; i++) {
+        is("fire after 5", 0, fire_after(one, 5, 7, 70));
+        is("fire after 9", 0, fire_after(two, 9, 8, 80));
+        leaps_to(ticks[i], 5, one);
+        left_is(two, 4);
+        leaps_to(ticks[i], 4, two);
+    }
+    is("fire after 1", 0, fire_after(one, 1, 7, 71));
+    leaps_to(1000000, 1, one);
+    is("the clock is not set", 0, table[HEADER_CLOCK_SET] | table[HEADER_SECONDS] | table[HEADER_CLOCK_TICKS]);
+}
+
+/* The waits of those behind the first stay what they are. */
+static void leap_over_waits(void)
+{
+    fresh();
+    is("create", 0, create(3));
+    is("fire after 9", 0, fire_after(two, 9, 8, 80));
+    is("fire after 5", 0, fire_after(one, 5, 7, 70));
+    is("fire after 5", 0, fire_after(three, 5, 9, 90));
+    leaps(3, 3, 0);
+    is("wait of the first", 2, word_of(one, SLOT_WAIT));
+    is("wait of its equal", 0, word_of(three, SLOT_WAIT));
+    is("wait of the last", 4, word_of(two, SLOT_WAIT));
+    leaps(10, 2, 2);
+    is("the earlier start first", one, list[fired_at(0, FIRED_ID)]);
+    is("then its equal", three, list[fired_at(1, FIRED_ID)]);
+    is("wait of the last", 4, word_of(two, SLOT_WAIT));
+    leaps_to(10, 4, two);
+    leaps(10, 10, 0);
+}
+
+/* A million ticks, one fewer and one more, and the longest wait. */
+static void leap_of_a_million(void)
+{
+    fresh();
+    leaps(1000000, 1000000, 0);
+    is("fire after 1000000", 0, fire_after(one, 1000000, 7, 70));
+    leaps_to(1000000, 1000000, one);
+    is("fire after 1000000", 0, fire_after(one, 1000000, 7, 70));
+    leaps(999999, 999999, 0);
+    left_is(one, 1);
+    leaps_to(1000000, 1, one);
+    is("fire after 1000001", 0, fire_after(one, 1000001, 7, 70));
+    leaps(1000000, 1000000, 0);
+    left_is(one, 1);
+    leaps_to(1, 1, one);
+    is("fire after 4294967295", 0, fire_after(one, 4294967295u, 7, 70));
+    leaps(1000000, 1000000, 0);
+    left_is(one, 4293967295u);
+}
+
+/* A tick that only queues ends the leap with a count of 0; timers that are queued already do not end the next one. */
+static void leap_to_the_queue(void)
+{
+    fresh();
+    is("create", 0, create(3));
+    is("initiate", 0, initiate_server());
+    is("server fire after 5", 0, server_fire_after(one, 5, 7, 70));
+    is("fire after 8", 0, fire_after(two, 8, 8, 80));
+    leaps(4, 4, 0);
+    queue_is(0, 0, 0);
+    leaps(1000000, 1, 0);
+    queue_is(one, 0, 0);
+    left_is(two, 3);
+    leaps(2, 2, 0);
+    leaps_to(1000000, 1, two);
+    queue_is(one, 0, 0);
+    leaps(1000000, 1000000, 0);
+    is("server fire after 5", 0, server_fire_after(three, 5, 9, 90));
+    is("fire after 5", 0, fire_after(two, 5, 8, 80));
+    leaps_to(6, 5, two);
+    queue_is(one, three, 0);
+    is("set clock", 0, set_clock(with_ticks(noon, 8)));
+    is("server fire when", 0, server_fire_when(two, at(2000, 1, 1, 12, 0, 2), 8, 80));
+    leaps(1000000, 12, 0);
+    queue_is(one, three, two);
+    clock_is(2, 0);
+    hands_out(one, 7, 70);
+    hands_out(three, 9, 90);
+    hands_out(two, 8, 80);
+}
+
+/* The clock goes on as by single ticks, and a date ends the leap. */
+static void leap_to_a_date(void)
+{
+    fresh();
+    is("set clock", 0, set_clock(with_ticks(noon, 7)));
+    leaps(2, 2, 0);
+    clock_is(0, 9);
+    leaps(1, 1, 0);
+    clock_is(1, 0);
+    leaps(10, 10, 0);
+    clock_is(2, 0);
+    leaps(29, 29, 0);
+    clock_is(4, 9);
+    leaps(1000000, 1000000, 0);
+    clock_is(100004, 9);
+    is("set clock", 0, set_clock(with_ticks(noon, 7)));
+    is("fire when", 0, fire_when(one, at(2000, 1, 1, 12, 0, 3)));
+    leaps(22, 22, 0);
+    clock_is(2, 9);
+    leap_changes_nothing("leap, no ticks", 0, 0);
+    leaps_to(1, 1, one);
+    clock_is(3, 0);
+    is("fire when", 0, fire_when(one, at(2000, 1, 1, 12, 0, 5)));
+    is("fire after 21", 0, fire_after(two, 21, 8, 80));
+    leaps_to(1000000, 20, one);
+    clock_is(5, 0);
+    leaps_to(1000000, 1, two);
+    clock_is(5, 1);
+    is("fire when", 0, fire_when(one, at(2000, 1, 1, 12, 0, 6)));
+    is("fire after 8", 0, fire_after(two, 8, 8, 80));
+    leaps_to(1000000, 8, two);
+    clock_is(5, 9);
+    leaps_to(1000000, 1, one);
+}
+
+/* Dates so far ahead that the ticks to them take more than 31 or 32 bits: less than a million more than these numbers, or
+ * just these, or up to the last second of all. */
+static void leap_to_far_dates(void)
+{
+    static const struct { uint32_t ticks_per_second, ahead, ticks; } dates[] = {
+        {1000, 4294968, 0}, {1000, 4294968, 703}, {1000, 4294967, 0}, {1000, 2147484, 0}, {1000, 2147484, 351},
+        {1000, 2147483, 0}, {999, 4299267, 0}, {512, 8388608, 0}, {512, 8388609, 511}, {512, 4194304, 0}, {512, 4194305, 511},
+        {2, 2147483648u, 0}, {2, 2147483648u, 1}, {1, 2147483648u, 0}, {1, 2147483649u, 0}, {1000, LAST_SECOND, 0},
+        {1, LAST_SECOND, 0}};
+    for (size_t i = 0; i < sizeof dates / sizeof *dates; i++) {
+        uint32_t ticks_per_second = dates[i].ticks_per_second;
+        struct hc_wall_time date;
+        is("lay out", 0, lay_out(SLOTS, ticks_per_second));
+        is("create", 0, create(1));
+        is("set clock", 0, set_clock(with_ticks(at(1988, 1, 1, 0, 0, 0), dates[i].ticks)));
+        oracle_date_of(dates[i].ahead, &date);
+        is("fire when", 0, fire_when(one, date));
+        leaps(1000000, 1000000, 0);
+        is("word 3", (1000000 + dates[i].ticks) / ticks_per_second, table[HEADER_SECONDS]);
+        is("word 4", (1000000 + dates[i].ticks) % ticks_per_second, table[HEADER_CLOCK_TICKS]);
+        is("it waits still", KIND_DATED, kind(1));
+    }
+}
+
+static void clock_stands_at_its_end(uint32_t ticks)
+{
+    is("word 3", LAST_SECOND, table[HEADER_SECONDS]);
+    is("word 4", ticks, table[HEADER_CLOCK_TICKS]);
+}
+
+/* At its last tick the clock stands still, and ticks still count. */
+static void leap_at_the_end(void)
+{
+    struct hc_wall_time last = at(2099, 12, 31, 23, 59, 59), before = at(2099, 12, 31, 23, 59, 58);
+    fresh();
+    is("set clock", 0, set_clock(with_ticks(last, 7)));
+    leaps(1, 1, 0);
+    clock_stands_at_its_end(8);
+    leaps(1, 1, 0);
+    clock_stands_at_its_end(9);
+    leaps(1, 1, 0);
+    clock_stands_at_its_end(9);
+    leaps(1000000, 1000000, 0);
+    clock_stands_at_its_end(9);
+    is("set clock", 0, set_clock(with_ticks(last, 7)));
+    leaps(3, 3, 0);
+    clock_stands_at_its_end(9);
+    is("set clock", 0, set_clock(before));
+    is("fire when at the last second", 0, fire_when(one, last));
+    is("fire after 50", 0, fire_after(two, 50, 8, 80));
+    leaps_to(1000000, 10, one);
+    clock_stands_at_its_end(0);
+    leaps_to(1000000, 40, two);
+    clock_stands_at_its_end(9);
+    is("set clock", 0, set_clock(before));
+    leaps(1000000, 1000000, 0);
+    clock_stands_at_its_end(9);
+    is("set clock", 0, set_clock(before));
+    leaps(20, 20, 0);
+    clock_stands_at_its_end(9);
+    is("fire every 3", 0, fire_every(two, 3, 8, 80));
+    leaps_to(5, 3, two);
+    clock_stands_at_its_end(9);
+    is("lay out", 0, lay_out(SLOTS, 1));
+    is("set clock", 0, set_clock(before));
+    leaps(3, 3, 0);
+    clock_stands_at_its_end(0);
+}
+
+/* Periodic timers end each leap, and go back as by single ticks. */
+static void leap_to_periodic(void)
+{
+    fresh();
+    is("create", 0, create(3));
+    is("fire every 2", 0, fire_every(one, 2, 7, 70));
+    is("fire every 3", 0, fire_every(two, 3, 8, 80));
+    leaps_to(1000000, 2, one);
+    left_is(one, 2);
+    leaps_to(1000000, 1, two);
+    left_is(two, 3);
+    leaps_to(1000000, 1, one);
+    is("fire after 2", 0, fire_after(three, 2, 9, 90));
+    leaps(1, 1, 0);
+    leaps(1000000, 1, 3);
+    is("the second first", two, list[fired_at(0, FIRED_ID)]);
+    is("then the first", one, list[fired_at(1, FIRED_ID)]);
+    is("then the third", three, list[fired_at(2, FIRED_ID)]);
+    is("it waits as periodic", KIND_PERIODIC, kind(1));
+    is("cancel", 0, cancel(one));
+    is("fire every 1000000", 0, fire_every(two, 1000000, 8, 80));
+    leaps_to(1000000, 1000000, two);
+    leaps(999999, 999999, 0);
+    leaps_to(1000000, 1, two);
+}
+
+/* Two timers are due at the fourteenth tick, one of them by its date. */
+static void due_at_fourteen(void)
+{
+    fresh();
+    is("set clock", 0, set_clock(with_ticks(noon, 6)));
+    is("fire after 14", 0, fire_after(one, 14, 7, 70));
+    is("fire when", 0, fire_when(two, at(2000, 1, 1, 12, 0, 2)));
+}
+
+/* Two leaps, the first of them empty, leave what one of as many ticks does. */
+static void leaps_add_up(void)
+{
+    for (uint32_t first = 0; first <= 13; first++)
+        for (uint32_t second = 0; second <= 20; second++) {
+            uint32_t by_one[WORDS], all = first + second < 14 ? first + second : 14;
+            due_at_fourteen();
+            leaps(first + second, all, all == 14 ? 2 : 0);
+            memcpy(by_one, table, sizeof by_one);
+            due_at_fourteen();
+            leaps(first, first, 0);
+            leaps(second, all - first, all == 14 ? 2 : 0);
+            for (uint32_t i = 0; i < WORDS; i++)
+                is("word of the table after two leaps", by_one[i], table[i]);
+        }
+}
+
 int main(void)
 {
     begin("edges", 0);
@@ -1225,6 +1556,16 @@ int main(void)
     next_of_timers();
     next_refusals();
     next_slices();
+    order_of_leap();
+    leap_to_a_timer();
+    leap_over_waits();
+    leap_of_a_million();
+    leap_to_the_queue();
+    leap_to_a_date();
+    leap_to_far_dates();
+    leap_at_the_end();
+    leap_to_periodic();
+    leaps_add_up();
     printf("edges: %u checks\n", checks);
     return 0;
 }

@@ -40,7 +40,7 @@ static uint32_t queue_wanted = 3;
 void random_manner(void)
 {
     static const uint32_t spans[] = {3, 5, 5, 40, 1000};
-    span = ONE_OF(spans);
+    span = one_in(16) ? 2 * MOST_LEAP : ONE_OF(spans);
     with_server = !one_in(6);
     serving = one_in(3);
     queue_wanted = one_in(4) ? 1 : 3 + below(one_in(3) ? 60 : 2);
@@ -129,10 +129,16 @@ static uint64_t some_due(const struct oracle *o, int started)
     return 0;
 }
 
+/* The clock as ticks since its first. */
+static uint64_t clock_reading(const struct oracle *o)
+{
+    return (uint64_t)o->seconds * o->ticks_per_second + o->clock_ticks;
+}
+
 static uint32_t random_ticks(const struct oracle *o)
 {
-    uint64_t due = some_due(o, BY_INTERVAL);
-    switch (below(10)) {
+    uint64_t due = some_due(o, BY_INTERVAL), date = some_due(o, BY_DATE) * o->ticks_per_second;
+    switch (below(11)) {
     case 0:
         return random_number();
     case 1:
@@ -142,18 +148,31 @@ static uint32_t random_ticks(const struct oracle *o)
         return due > o->ticks ? near((uint32_t)(due - o->ticks)) : below(4);
     case 4:
         return below(3);
+    case 5:
+        return date > clock_reading(o) ? (uint32_t)(date - clock_reading(o)) : below(4);
     default:
         return 1 + below(span);
     }
+}
+
+/* The second after which the ticks from the clock on take more than 32 bits, or 31. */
+static uint32_t beyond_32_bits(const struct oracle *o)
+{
+    uint64_t second = o->seconds + (UINT64_C(1) << (one_in(3) ? 31 : 32)) / o->ticks_per_second + 1;
+    return second > LAST_SECOND ? LAST_SECOND : (uint32_t)second;
 }
 
 static uint32_t random_second(const struct oracle *o)
 {
     uint64_t due = some_due(o, BY_DATE);
     uint32_t second = 0;
-    switch (below(14)) {
+    switch (below(16)) {
     case 0:
         second = LAST_SECOND - below(4);
+        break;
+    case 14:
+    case 15:
+        second = beyond_32_bits(o);
         break;
     case 1:
         second = below(4);
@@ -274,12 +293,43 @@ static size_t random_serve_list_length(void)
     return one_in(4) ? FIRED_WORDS + below(20) : below(FIRED_WORDS + 3);
 }
 
+uint32_t random_leap(const struct oracle *o)
+{
+    uint64_t due = oracle_ticks_to_due(o);
+    uint64_t end = ((uint64_t)LAST_SECOND + 1) * o->ticks_per_second - 1 - clock_reading(o);
+    switch (below(12)) {
+    case 0:
+        return below(2);
+    case 1:
+        return below(5);
+    case 2:
+        return 1 + below(2 * span);
+    case 3:
+        return o->ticks_per_second - o->clock_ticks + o->ticks_per_second * below(3);
+    case 4:
+        return o->clock_set && end <= MOST_LEAP ? near((uint32_t)end) : MOST_LEAP - below(2);
+    case 5:
+    case 6:
+        return MOST_LEAP;
+    case 7:
+        return one_in(2) ? MOST_LEAP + 1 : one_in(2) ? UINT32_MAX : MOST_LEAP + random_number();
+    default:
+        return due <= MOST_LEAP ? near((uint32_t)due) : one_in(2) ? MOST_LEAP - below(2) : 1 + below(4 * o->ticks_per_second);
+    }
+}
+
+void afford_leap(const struct oracle *o, struct call *c)
+{
+    if (c->kind == LEAP && c->ticks <= MOST_LEAP && !affordable(c->ticks, oracle_ticks_to_due(o), o->slots))
+        c->ticks = below(4);
+}
+
 static enum call_kind random_kind(const struct oracle *o)
 {
     static const uint32_t weights[CALLS] = {
         [CREATE] = 7, [IDENT] = 3, [CANCEL] = 6, [DELETE] = 4, [FIRE_AFTER] = 5, [FIRE_WHEN] = 6, [FIRE_EVERY] = 5,
         [RESET] = 4, [TICKS_LEFT] = 3, [TICK] = 10, [SET_CLOCK] = 4, [GET_CLOCK] = 3, [NEXT_DUE] = 3, [INITIATE_SERVER] = 1,
-        [SERVER_FIRE_AFTER] = 7, [SERVER_FIRE_WHEN] = 9, [SERVE] = 8};
+        [SERVER_FIRE_AFTER] = 7, [SERVER_FIRE_WHEN] = 9, [SERVE] = 8, [LEAP] = 6};
     enum call_kind kind = weighted_call(weights);
     if (!o->initiated && with_server && one_in(4))
         return INITIATE_SERVER;
@@ -297,7 +347,8 @@ void random_call(const struct oracle *o, struct call *c)
     c->fired_words = c->kind == SERVE ? random_serve_list_length() : random_list_length(o->slots);
     c->name = random_name();
     c->id = c->kind == CANCEL && one_in(3) ? random_idle_id(o) : random_id(o);
-    c->ticks = random_ticks(o);
+    c->ticks = c->kind == LEAP ? random_leap(o) : random_ticks(o);
+    afford_leap(o, c);
     c->routine = one_in(8) ? random_number() : 1 + below(9);
     c->data = one_in(3) ? random_number() : below(100);
     if (one_in(12))
@@ -341,7 +392,7 @@ static void random_timer(struct oracle *o, struct oracle_timer *t)
         t->interval = left == 0 ? 1 : left;
         t->due = o->ticks + (one_in(2) ? t->interval : 1 + below(t->interval));
     } else {
-        t->due = one_in(8) || second > LAST_SECOND ? LAST_SECOND : second;
+        t->due = one_in(8) || second > LAST_SECOND ? LAST_SECOND : one_in(12) ? beyond_32_bits(o) : second;
         t->waiting = t->waiting && o->clock_set && t->due > o->seconds;
     }
 }

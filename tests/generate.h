@@ -16,6 +16,13 @@ void random_manner(void);
 /* A call other than lay out that suits the state, or just misses it. */
 void random_call(const struct oracle *state, struct call *call);
 
+/* The ticks of a leap that suits the state: none, one, a few, about as many as bring the first timer due or the clock to its
+ * last tick, the most, or too many. */
+uint32_t random_leap(const struct oracle *state);
+
+/* Makes the ticks of a leap few where single ticks of the oracle's, which it counts, would take too long. */
+void afford_leap(const struct oracle *state, struct call *call);
+
 /* A lay out of a table of at most so many slots, or one that is to be refused. */
 void random_lay_out(uint32_t most, size_t capacity, struct call *call);
 

@@ -73,6 +73,19 @@ enum call_kind weighted_call(const uint32_t weights[CALLS])
     return (enum call_kind)kind;
 }
 
+/* The more work the less often, so that all leaps together take no longer than as many short ones; and a few of the longest
+ * besides, so that a short run has them too. */
+bool affordable(uint64_t ticks, uint64_t ticks_to_due, uint64_t looked_at)
+{
+    enum { REST_OF_TICK = 10, SHORT_WORK = 2000 };
+    static uint64_t for_the_longest = 60 * MOST_LEAP;
+    uint64_t done = ticks < ticks_to_due ? ticks : ticks_to_due, work = done * (looked_at + REST_OF_TICK);
+    if (done < MOST_LEAP || work > for_the_longest)
+        return one_in((uint32_t)(1 + work / SHORT_WORK));
+    for_the_longest -= work;
+    return true;
+}
+
 /* ---- Memory ---- */
 
 struct lent table_memory, other_table_memory, list_memory;
@@ -163,6 +176,9 @@ static void describe_arguments(const struct call *c, char *text, size_t size)
         break;
     case SET_CLOCK:
         snprintf(text, size, ", %s, list %zu words", time, c->fired_words);
+        break;
+    case LEAP:
+        snprintf(text, size, ", ticks %" PRIu32 ", list %zu words", c->ticks, c->fired_words);
         break;
     case GET_CLOCK:
     case NEXT_DUE:
@@ -276,7 +292,7 @@ void begin(const char *program, uint64_t seed)
 enum { BESIDE = 2 };
 
 /* The words for answers, each with others before and after it that must stay. */
-static uint32_t answers[BESIDE + 1 + BESIDE];
+static uint32_t answers[BESIDE + 1 + BESIDE], dones[BESIDE + 1 + BESIDE];
 static int64_t moves[BESIDE + 1 + BESIDE];
 static struct hc_wall_time times[BESIDE + 1 + BESIDE];
 
@@ -330,6 +346,8 @@ static uint32_t call_library(const void *arguments)
         return hc_server_fire_when(table, c->words, c->id, time, c->routine, c->data);
     case SERVE:
         return hc_serve(table, c->words, list, c->fired_words, answer);
+    case LEAP:
+        return hc_leap(table, c->words, c->ticks, list, c->fired_words, &dones[BESIDE], answer);
     }
     abort();    /* there is no such call */
 }
@@ -350,21 +368,22 @@ uint32_t watched(uint32_t (*call)(const void *), const void *arguments)
 static bool has_answer(enum call_kind kind)
 {
     return kind == CREATE || kind == IDENT || kind == TICKS_LEFT || kind == TICK || kind == SET_CLOCK || kind == NEXT_DUE ||
-           kind == SERVE;
+           kind == SERVE || kind == LEAP;
 }
 
 void perform(const struct call *c, uint32_t *table, uint32_t *list, struct came *came)
 {
-    uint32_t answers_before[BESIDE + 1 + BESIDE];
+    uint32_t answers_before[BESIDE + 1 + BESIDE], dones_before[BESIDE + 1 + BESIDE];
     int64_t moves_before[BESIDE + 1 + BESIDE];
     struct hc_wall_time times_before[BESIDE + 1 + BESIDE];
     for (int i = 0; i < BESIDE + 1 + BESIDE; i++)
-        answers[i] = 0xdeadbeefu + (uint32_t)i;
+        answers[i] = 0xdeadbeefu + (uint32_t)i, dones[i] = 0xfeedbeefu + (uint32_t)i;
     memset(moves, 0x5a, sizeof moves);
     memset(times, 0xa5, sizeof times);
     if (c->kind != GET_CLOCK)
         times[BESIDE] = c->time;
     memcpy(answers_before, answers, sizeof answers);
+    memcpy(dones_before, dones, sizeof dones);
     memcpy(moves_before, moves, sizeof moves);
     memcpy(times_before, times, sizeof times);
 
@@ -372,15 +391,18 @@ void perform(const struct call *c, uint32_t *table, uint32_t *list, struct came 
 
     came->answer = has_answer(c->kind) ? answers[BESIDE] : 0;
     came->moved = c->kind == SET_CLOCK ? moves[BESIDE] : 0;
+    came->done = c->kind == LEAP ? dones[BESIDE] : 0;
     came->clock = (struct hc_wall_time){0, 0, 0, 0, 0, 0, 0};
     if (has_answer(c->kind))
         answers_before[BESIDE] = answers[BESIDE];
     if (c->kind == SET_CLOCK)
         moves_before[BESIDE] = moves[BESIDE];
+    if (c->kind == LEAP)
+        dones_before[BESIDE] = dones[BESIDE];
     if (c->kind == GET_CLOCK)
         came->clock = times_before[BESIDE] = times[BESIDE];
-    came->beside = memcmp(answers, answers_before, sizeof answers) != 0 || memcmp(moves, moves_before, sizeof moves) != 0 ||
-                   memcmp(times, times_before, sizeof times) != 0;
+    came->beside = memcmp(answers, answers_before, sizeof answers) != 0 || memcmp(dones, dones_before, sizeof dones) != 0 ||
+                   memcmp(moves, moves_before, sizeof moves) != 0 || memcmp(times, times_before, sizeof times) != 0;
 }
 
 static void name_word(ptrdiff_t word, char *text, size_t size)
@@ -443,6 +465,8 @@ static void compare(const struct came *came, const struct outcome *expected)
     if (came->answer != expected->answer)
         fail("status %" PRIu32 ": expected answer %" PRIu32 ", came %" PRIu32, came->status, expected->answer,
              came->answer);
+    if (came->done != expected->done)
+        fail("status %" PRIu32 ": expected %" PRIu32 " ticks done, came %" PRIu32, came->status, expected->done, came->done);
     if (came->moved != expected->moved)
         fail("status %" PRIu32 ": expected the clock to be moved by %" PRId64 " ticks, came %" PRId64, came->status,
              expected->moved, came->moved);
@@ -465,6 +489,7 @@ static uint64_t by_status[CALLS][STATUSES], by_reason[CALLS][REASONS];
 static bool by_pair[CALLS][STATUSES][STATUSES];
 static bool taken_by_kind[CALLS][KINDS], refused_by_kind[CALLS][KINDS];    /* with the id of a timer of the kind */
 static uint32_t turns_met[CALLS], date_cases_met[CALLS];
+static uint64_t leap_cases_met;
 static bool taken_off[CALLS][KINDS][QUEUE_PLACES];
 static bool cancels_met[KINDS][EVENTS];     /* accepted or refused with 14, by what befell the timer last */
 
@@ -487,9 +512,10 @@ static void note(const struct call *c, const struct outcome *outcome, const stru
     by_status[kind][outcome->status]++;
     by_reason[kind][outcome->reason]++;
     (accepted ? taken_by_kind : refused_by_kind)[kind][outcome->timer_kind] = true;
-    if ((kind == TICK || kind == SET_CLOCK) && accepted)
+    if ((kind == TICK || kind == SET_CLOCK || kind == LEAP) && accepted)
         turns_met[kind] |= oracle_turns(after, outcome);
     date_cases_met[kind] |= oracle_date_cases(c, after, outcome);
+    leap_cases_met |= oracle_leap_cases(c, after, outcome);
     if (kind == CANCEL && (accepted || outcome->reason == NOTHING_TO_CANCEL))
         cancels_met[outcome->timer_kind][outcome->last_event] = true;
     if (kind == SERVE)
@@ -508,7 +534,7 @@ static void expect_words(const struct outcome *expected, const struct oracle *af
         return;
     oracle_encode(after, expected_of(place.memory, place.words));
     enum call_kind kind = place.call->kind;
-    if (kind == TICK || kind == SET_CLOCK || kind == SERVE)
+    if (kind == TICK || kind == SET_CLOCK || kind == SERVE || kind == LEAP)
         memcpy(expected_of(&list_memory, place.list), expected->fired, list_words(expected->answer) * sizeof(uint32_t));
 }
 
@@ -588,6 +614,17 @@ unsigned date_cases_not_met(void)
                 printf("  not met: %s in which %s\n", call_names[kind], date_case_texts[date_case]);
                 missing++;
             }
+    return missing;
+}
+
+unsigned leap_cases_not_met(void)
+{
+    unsigned missing = 0;
+    for (int leap_case = 0; leap_case < LEAP_CASES; leap_case++)
+        if (!(leap_cases_met >> leap_case & 1)) {
+            printf("  not met: leap in which %s\n", leap_case_texts[leap_case]);
+            missing++;
+        }
     return missing;
 }
 

@@ -17,6 +17,10 @@ bool one_in(uint32_t n);
 /* A call, each as often as its weight says. */
 enum call_kind weighted_call(const uint32_t weights[CALLS]);
 
+/* Whether a test may go through the single ticks of a leap of so many, where the first timer is due after so many and each
+ * tick looks at so many slots or timers: for long ones, at times. */
+bool affordable(uint64_t ticks, uint64_t ticks_to_due, uint64_t looked_at);
+
 /* ---- Memory between pages that stop the program when they are read or written ---- */
 struct lent {
     uint32_t *base;         /* the words that exist */
@@ -34,7 +38,7 @@ uint32_t *expected_of(const struct lent *memory, const uint32_t *word);
 
 /* ---- Calls ---- */
 struct came {
-    uint32_t status, answer;
+    uint32_t status, answer, done;
     int64_t moved;
     struct hc_wall_time clock;
     bool beside;            /* a word beside the answers, or the wall time given, was changed */
@@ -73,14 +77,15 @@ void describe_time(const struct hc_wall_time *time, char text[TIME_TEXT]);
 void report_met(void);
 
 /* Each prints the cases that were not met and gives their number: statuses of each call, and where two apply; calls with the
- * id of a timer of each kind; so many of the turns that a tick or set clock may take; timers taken off the queue by each call
- * at each place, and serves of each queue with each list; cancels of timers by what befell them last; calls with a date by
- * its ticks field and by how far the clock moves. */
+ * id of a timer of each kind; so many of the turns that a tick, set clock or leap may take; timers taken off the queue by each
+ * call at each place, and serves of each queue with each list; cancels of timers by what befell them last; calls with a date
+ * by its ticks field and by how far the clock moves; leaps by where they end and what the clock does. */
 unsigned statuses_not_met(void);
 unsigned kinds_not_met(void);
 unsigned turns_not_met(int turns);
 unsigned queue_not_met(void);
 unsigned cancels_not_met(void);
 unsigned date_cases_not_met(void);
+unsigned leap_cases_not_met(void);
 
 #endif

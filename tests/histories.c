@@ -44,6 +44,12 @@ static bool initiated, sooner[MAX_SLOTS + 1];
 enum setting { SET_AT_FIRST, MOVED_BY_NONE, MOVED_ON, MOVED_BACK, REFUSED_FOR_TICKS, SETTINGS };
 static uint64_t settings[SETTINGS];
 
+/* Leaps by what they come to: no ticks; several, all empty; the most, all empty; timers fire, or are only queued, before the
+ * last tick; the clock comes to its end, and ticks are left; too many ticks. */
+enum leaping { NO_TICKS, ALL_EMPTY, MOST_EMPTY, ENDED_BY_FIRING, ENDED_BY_QUEUEING, PAST_THE_CLOCK, TOO_MANY_TICKS, LEAPINGS };
+static uint64_t leaps[LEAPINGS];
+
+static uint64_t due_in_all;             /* timers that fired or were queued */
 static uint64_t calls, fired_in_all, fired_again, served_in_all, served_sooner, accepted[CALLS], nothing_after[ENDINGS];
 static uint64_t none_due, some_due;      /* calls of next due where no timer waits for ticks, and where one does */
 static uint32_t span;
@@ -131,6 +137,7 @@ static void enter(uint32_t *list, uint32_t k, const struct start *s)
 static void take_due(const struct start *s, uint32_t *list, uint32_t *count)
 {
     ending[s->id - ID_BASE] = BY_FIRING;
+    due_in_all++;
     if (s->server)
         enqueue(s->id);
     else
@@ -225,6 +232,32 @@ static uint32_t after_tick(uint32_t *list)
     if (clock_ticks < ((uint64_t)LAST_SECOND + 1) * ticks_per_second - 1)
         clock_ticks++;
     return count + fire_dated(clock_ticks / ticks_per_second, list + list_words(count));
+}
+
+/* The ticks until the clock, which is set, stands at its last. */
+static uint64_t ticks_to_end(void)
+{
+    return ((uint64_t)LAST_SECOND + 1) * ticks_per_second - 1 - clock_ticks;
+}
+
+/* Each tick of a leap is an accepted one; the first in which a timer is due is the last. */
+static uint32_t after_leap(const struct call *c, const struct came *came, uint32_t *list)
+{
+    uint32_t done = 0, count = 0;
+    uint64_t due_before = due_in_all, end = clock_set ? ticks_to_end() : 0;
+    while (done < c->ticks && due_in_all == due_before) {
+        count = after_tick(list);
+        done++;
+    }
+    if (came->done != done)
+        fail("expected %" PRIu32 " ticks done, came %" PRIu32, done, came->done);
+    leaps[NO_TICKS] += done == 0;
+    leaps[ALL_EMPTY] += done > 1 && due_in_all == due_before;
+    leaps[MOST_EMPTY] += done == MOST_LEAP && due_in_all == due_before;
+    leaps[ENDED_BY_FIRING] += done < c->ticks && count > 0;
+    leaps[ENDED_BY_QUEUEING] += done < c->ticks && count == 0;
+    leaps[PAST_THE_CLOCK] += end > 0 && done > end;
+    return count;
 }
 
 /* How far a set clock moves the clock to that tick. */
@@ -357,10 +390,28 @@ static void expect_set_clock(const struct call *c, uint32_t status)
     settings[REFUSED_FOR_TICKS] += status == HC_INVALID_CLOCK && date_valid;
 }
 
+/* Nor does a leap's status need more. */
+static void expect_leap(const struct call *c, uint32_t status)
+{
+    uint32_t expected = HC_SUCCESSFUL;
+    if (c->fired_words < list_words(slots))
+        expected = HC_LIST_TOO_SHORT;
+    else if (c->ticks > MOST_LEAP)
+        expected = HC_INVALID_NUMBER;
+    if (status != expected)
+        fail("expected status %" PRIu32 " by the calls before, came %" PRIu32, expected, status);
+    leaps[TOO_MANY_TICKS] += status == HC_INVALID_NUMBER;
+}
+
+static bool of_server(enum call_kind kind)
+{
+    return kind == INITIATE_SERVER || kind == SERVER_FIRE_AFTER || kind == SERVER_FIRE_WHEN || kind == SERVE;
+}
+
 /* The other calls give 14 for the server alone: where it is initiated, or where it is not. */
 static void expect_server_refusal(enum call_kind kind)
 {
-    if (kind < INITIATE_SERVER || initiated != (kind == INITIATE_SERVER))
+    if (!of_server(kind) || initiated != (kind == INITIATE_SERVER))
         fail("expected another status, came 14");
 }
 
@@ -407,7 +458,7 @@ static void learn(const struct call *c, const struct came *came, const uint32_t 
     uint32_t expected[MAX_LIST], count;
     if (oracle_takes_id(c->kind))
         expect_timer(c->id);
-    if (c->kind >= INITIATE_SERVER)
+    if (of_server(c->kind))
         expect_initiated(c->kind != INITIATE_SERVER);
     switch (c->kind) {
     case LAY_OUT:
@@ -439,7 +490,9 @@ static void learn(const struct call *c, const struct came *came, const uint32_t 
         break;
     case TICK:
     case SET_CLOCK:
-        count = c->kind == TICK ? after_tick(expected) : after_set_clock(c, came, expected);
+    case LEAP:
+        count = c->kind == TICK ? after_tick(expected) : c->kind == LEAP ? after_leap(c, came, expected)
+                                                                         : after_set_clock(c, came, expected);
         expect_list(came, expected, count, list_before, list, c->fired_words);
         fired_in_all += count;
         break;
@@ -539,12 +592,53 @@ static uint32_t random_id(void)
     return ID_BASE + index;
 }
 
+/* The ticks until the first start that has not ended is due. */
+static uint64_t ticks_to_due(void)
+{
+    uint64_t least = UINT64_MAX;
+    for (uint32_t i = 0; i < waiting_count; i++) {
+        const struct start *s = &waiting[i];
+        uint64_t left = s->by_date ? s->date * ticks_per_second - clock_ticks : next_due(s) - ticks;
+        least = left < least ? left : least;
+    }
+    return least;
+}
+
+/* None, a few, about as many as bring the first timer due or the clock to its end, the most, or more; but few where the most
+ * would take too long. */
+static uint32_t random_leap(void)
+{
+    uint64_t due = ticks_to_due(), leap = below(3 * span);
+    switch (below(8)) {
+    case 0:
+        leap = below(2);
+        break;
+    case 1:
+        leap = MOST_LEAP + (one_in(2) ? 1 : below(UINT32_MAX - MOST_LEAP));
+        break;
+    case 2:
+    case 3:
+        leap = MOST_LEAP;
+        break;
+    case 4:
+        leap = clock_set && ticks_to_end() < MOST_LEAP ? ticks_to_end() + below(3) : MOST_LEAP;
+        break;
+    case 5:
+    case 6:
+        leap = due < MOST_LEAP ? due - 1 + below(3) : leap;
+        break;
+    default:
+        break;
+    }
+    return leap > MOST_LEAP || affordable(leap, due, waiting_count) ? (uint32_t)leap : below(4);
+}
+
 static void random_history_call(struct call *c, size_t words)
 {
     static const uint32_t weights[CALLS] = {
         [CREATE] = 4, [IDENT] = 1, [CANCEL] = 2, [DELETE] = 1, [FIRE_AFTER] = 5, [FIRE_WHEN] = 3, [FIRE_EVERY] = 2,
         [RESET] = 2, [TICKS_LEFT] = 1, [TICK] = 10, [GET_CLOCK] = 1, [NEXT_DUE] = 2, [SERVER_FIRE_AFTER] = 6,
-        [SERVER_FIRE_WHEN] = 4, [SERVE] = 4};
+        [SERVER_FIRE_WHEN] = 4, [SERVE] = 4, [LEAP] = 3};
     memset(c, 0, sizeof *c);
     c->kind = weighted_call(weights);
     if (c->kind == SERVE && queue_length() == 0 && !one_in(4))
@@ -560,6 +654,8 @@ static void random_history_call(struct call *c, size_t words)
     c->name = below(5);
     c->id = random_id();
     c->ticks = one_in(50) ? random_word() : below(span) + (one_in(20) ? 0 : 1);
+    if (c->kind == LEAP)
+        c->ticks = random_leap();
     c->routine = below(20), c->data = random_word();
     c->fired_words = list_words(slots) - (one_in(10) ? 1 : 0) + (one_in(3) ? 1 : 0);
     if (c->kind == SERVE)
@@ -579,6 +675,8 @@ static void make(struct call *c, uint32_t *table)
         expect_cancel(c->id, came.status);
     else if (c->kind == SET_CLOCK)
         expect_set_clock(c, came.status);
+    else if (c->kind == LEAP)
+        expect_leap(c, came.status);
     else if (came.status == HC_INCORRECT_STATE)
         expect_server_refusal(c->kind);
     if (c->kind == NEXT_DUE && came.status != HC_SUCCESSFUL)
@@ -588,6 +686,9 @@ static void make(struct call *c, uint32_t *table)
             fail("status %" PRIu32 ": expected the list to stay, came a change", came.status);
         if (came.moved != 0)
             fail("status %" PRIu32 ": expected the clock to be moved by 0 ticks, came %" PRId64, came.status, came.moved);
+        if (came.done != 0 || came.answer != 0)
+            fail("status %" PRIu32 ": expected answers of 0, came %" PRIu32 " and %" PRIu32, came.status, came.done,
+                 came.answer);
         return;
     }
     accepted[c->kind]++;
@@ -611,7 +712,14 @@ static void report(uint64_t seed)
     printf("  the clock: set at first %" PRIu64 ", not moved %" PRIu64 ", moved on %" PRIu64 ", moved back %" PRIu64
            ", refused for the ticks alone %" PRIu64 "\n", settings[SET_AT_FIRST], settings[MOVED_BY_NONE],
            settings[MOVED_ON], settings[MOVED_BACK], settings[REFUSED_FOR_TICKS]);
+    printf("  leaps: of no ticks %" PRIu64 ", empty %" PRIu64 ", of 1000000 empty ticks %" PRIu64 ", ended by firing %" PRIu64
+           ", by queueing %" PRIu64 ", past the clock's end %" PRIu64 ", refused for the ticks %" PRIu64 "\n", leaps[NO_TICKS],
+           leaps[ALL_EMPTY], leaps[MOST_EMPTY], leaps[ENDED_BY_FIRING], leaps[ENDED_BY_QUEUEING], leaps[PAST_THE_CLOCK],
+           leaps[TOO_MANY_TICKS]);
     place.call = NULL, place.table = 0;
+    for (int i = 0; i < LEAPINGS; i++)
+        if (leaps[i] == 0)
+            fail("expected leaps of each sort, came none of one");
     for (int i = 0; i < SETTINGS; i++)
         if (settings[i] == 0)
             fail("expected the clock to be set at first, again, on and back, and its ticks refused, came none of one sort");

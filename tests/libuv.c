@@ -1,8 +1,8 @@
 /* libuv's timers on a clock of our own, one millisecond a tick, as a second timer list for interval timers, periodic ones as
  * libuv's repeating ones: the same timers must fire, in the same order among equals, each with routine and data of its last
  * start, as many ticks must be left, the next must be due when libuv's loop would wake, and only the timers that libuv calls
- * active can be cancelled. The wall clock is libuv's time and an offset: to set it changes no timer, and moves it by as much as
- * the offset changes.
+ * active can be cancelled. A leap does the ticks that libuv's loop would sleep through and wake with. The wall clock is
+ * libuv's time and an offset: to set it changes no timer, and moves it by as much as the offset changes.
  * Arguments: seed, number of calls. */
 #define _DEFAULT_SOURCE
 #include "harness.h"
@@ -43,6 +43,7 @@ static uint32_t fired[SLOTS], fired_count;
 static bool clock_set;
 static int64_t offset;      /* of the wall clock against libuv's time, in ticks, once it is set */
 static uint64_t calls, fires, periodic_fires, cancels, idle_cancels, sets, sets_back, sleeps, ends;
+static uint64_t leaps_to_timer, leaps_between, longest_leap;
 
 static void note_fired(uv_timer_t *timer)
 {
@@ -131,20 +132,77 @@ static void expect_entry(uint32_t k)
     periodic_fires += last_start[index].periodic;
 }
 
+/* So many milliseconds pass at once for libuv. */
+static void pass(uint64_t time)
+{
+    milliseconds += time;
+    uv_update_time(loop);
+    uv_run(loop, UV_RUN_NOWAIT);    /* answers whether timers still wait, and no error */
+}
+
+static void expect_fired(const struct came *came)
+{
+    if (came->answer != fired_count)
+        fail("expected %" PRIu32 " fired as by libuv, came %" PRIu32, fired_count, came->answer);
+    for (uint32_t k = 0; k < fired_count; k++)
+        expect_entry(k);
+    fires += fired_count;
+}
+
 static void tick(void)
 {
     struct came came;
     struct call c = {.kind = TICK, .fired_words = HC_LIST_WORDS(SLOTS)};
-    milliseconds++;
     fired_count = 0;
-    uv_update_time(loop);
-    uv_run(loop, UV_RUN_NOWAIT);    /* answers whether timers still wait, and no error */
+    pass(1);
     make(&c, 0, &came);
-    if (came.answer != fired_count)
-        fail("expected %" PRIu32 " fired as by libuv, came %" PRIu32, fired_count, came.answer);
-    for (uint32_t k = 0; k < fired_count; k++)
-        expect_entry(k);
-    fires += fired_count;
+    expect_fired(&came);
+}
+
+/* As many ticks as were done pass for libuv, short leaps one by one and others all but the last at once: before the last no
+ * timer may fire, and in it one must, unless the leap did all its ticks. */
+static void leap(void)
+{
+    enum { ONE_BY_ONE = 60 };
+    struct came came;
+    struct call c = {.kind = LEAP, .fired_words = HC_LIST_WORDS(SLOTS), .ticks = below(one_in(2) ? 4 : 50)};
+    if (one_in(4))
+        c.ticks = one_in(2) ? HC_MOST_LEAP : below(HC_MOST_LEAP);
+    make(&c, 0, &came);
+    if (came.done > c.ticks)
+        fail("expected at most %" PRIu32 " ticks done, came %" PRIu32, c.ticks, came.done);
+    fired_count = 0;
+    if (came.done > ONE_BY_ONE)
+        pass(came.done - 1);
+    else
+        for (uint32_t i = 1; i < came.done && fired_count == 0; i++)
+            pass(1);
+    if (fired_count > 0)
+        fail("expected fewer ticks done, since libuv's timers fire before, came %" PRIu32, came.done);
+    if (came.done > 0)
+        pass(1);
+    if (came.done < c.ticks && fired_count == 0)
+        fail("expected more ticks done, since none of libuv's timers fires, came %" PRIu32, came.done);
+    expect_fired(&came);
+    leaps_to_timer += fired_count > 0, leaps_between += fired_count == 0 && came.done > 1;
+    longest_leap = came.done > longest_leap ? came.done : longest_leap;
+}
+
+/* Few timers wait, so that there are ticks to leap over. */
+static void calm(void)
+{
+    for (uint32_t index = 1; index <= SLOTS; index++)
+        if (active(index)) {
+            struct call c = {.kind = CANCEL, .id = ID_BASE + index};
+            cancel(&c, index);
+        }
+    for (uint32_t starts = below(5); starts > 0; starts--) {
+        uint32_t index = 1 + below(SLOTS), ticks = 1 + below(one_in(2) ? 60 : 2 * HC_MOST_LEAP);
+        struct call c = {.kind = one_in(2) ? FIRE_AFTER : FIRE_EVERY, .id = ID_BASE + index, .ticks = ticks, .routine = index};
+        start(&c, index);
+    }
+    for (uint32_t leaps = 1 + below(5); leaps > 0; leaps--)
+        leap();
 }
 
 /* To a second that is a day or more before the clock's last, where it would stand still. */
@@ -171,11 +229,15 @@ static void one_call(void)
         set_clock();
         return;
     }
+    if (one_in(200)) {
+        calm();
+        return;
+    }
     uint32_t index = 1 + below(SLOTS), ticks = 1 + below(one_in(3) ? 40 : 6);
     struct call c = {.id = ID_BASE + index, .ticks = one_in(100) ? UINT32_MAX : ticks};
     c.routine = 1 + below(UINT32_MAX), c.data = random_word();
     struct came came;
-    switch (below(10)) {
+    switch (below(11)) {
     case 0:
     case 1:
     case 2:
@@ -202,6 +264,9 @@ static void one_call(void)
         break;
     case 7:
         expect_next_due();
+        break;
+    case 8:
+        leap();
         break;
     default:
         tick();
@@ -232,14 +297,18 @@ int main(int count, char **arguments)
     while (calls < wanted)
         one_call();
     printf("libuv %s: seed %" PRIu64 ", %" PRIu64 " calls, %" PRIu64 " timers fired, %" PRIu64 " of them periodic; %" PRIu64
-           " cancels, %" PRIu64 " of them of idle timers; the clock set %" PRIu64 " times, %" PRIu64 " of them back\n",
-           uv_version_string(), seed, calls, fires, periodic_fires, cancels, idle_cancels, sets, sets_back);
+           " cancels, %" PRIu64 " of them of idle timers; the clock set %" PRIu64 " times, %" PRIu64 " of them back; %" PRIu64
+           " leaps to a timer, %" PRIu64 " over empty ticks alone, of up to %" PRIu64 " ticks\n",
+           uv_version_string(), seed, calls, fires, periodic_fires, cancels, idle_cancels, sets, sets_back, leaps_to_timer,
+           leaps_between, longest_leap);
     if (periodic_fires == 0 || periodic_fires == fires)
         fail("expected timers to fire, periodic ones and others, came none of one sort");
     if (sleeps == 0 || ends == 0)
         fail("expected next due where timers wait and where none does, came none of one sort");
     if (idle_cancels == 0 || idle_cancels == cancels)
         fail("expected cancels of active timers and of idle ones, came none of one sort");
+    if (leaps_to_timer == 0 || leaps_between == 0 || longest_leap != HC_MOST_LEAP)
+        fail("expected leaps to a timer, over empty ticks alone and of 1000000 ticks, came none of one sort");
     if (sets_back == 0 || sets_back == sets)
         fail("expected the clock to be set on and back, came none of one sort");
     return 0;

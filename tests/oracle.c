@@ -6,11 +6,13 @@
 
 const char *const call_names[CALLS] = {"lay_out", "create", "ident", "cancel", "delete", "fire_after", "fire_when",
                                        "fire_every", "reset", "ticks_left", "tick", "set_clock", "get_clock",
-                                       "next_due", "initiate_server", "server_fire_after", "server_fire_when", "serve"};
+                                       "next_due", "initiate_server", "server_fire_after", "server_fire_when", "serve",
+                                       "leap"};
 
 const char *const reason_texts[REASONS] = {
     [ACCEPTED] = "accepted", [TABLE_NOT_SOUND] = "table not sound", [LIST_SHORT] = "list shorter than 3N words",
-    [SERVED_SHORT] = "list shorter than 3 words", [INITIATED_ALREADY] = "server initiated already",
+    [SERVED_SHORT] = "list shorter than 3 words", [LEAP_TOO_FAR] = "more than 1000000 ticks",
+    [INITIATED_ALREADY] = "server initiated already",
     [NOT_INITIATED] = "server not initiated", [NOTHING_TO_CANCEL] = "neither waiting nor queued",
     [SLOTS_BELOW] = "no slots", [SLOTS_ABOVE] = "too many slots", [TPS_BELOW] = "no ticks in a second",
     [TPS_ABOVE] = "too many ticks in a second", [WORDS_SHORT] = "fewer than 10 + 8N words", [NAME_ZERO] = "name 0",
@@ -26,8 +28,8 @@ const char *const reason_texts[REASONS] = {
     [FIRST_WAIT_ZERO] = "word 5 names a slot whose wait is 0"};
 
 const uint32_t reason_statuses[REASONS] = {
-    [TABLE_NOT_SOUND] = 100, [LIST_SHORT] = 101, [SERVED_SHORT] = 101, [INITIATED_ALREADY] = 14, [NOT_INITIATED] = 14,
-    [NOTHING_TO_CANCEL] = 14, [SLOTS_BELOW] = 10, [SLOTS_ABOVE] = 10, [TPS_BELOW] = 10, [TPS_ABOVE] = 10,
+    [TABLE_NOT_SOUND] = 100, [LIST_SHORT] = 101, [SERVED_SHORT] = 101, [LEAP_TOO_FAR] = 10, [INITIATED_ALREADY] = 14,
+    [NOT_INITIATED] = 14, [NOTHING_TO_CANCEL] = 14, [SLOTS_BELOW] = 10, [SLOTS_ABOVE] = 10, [TPS_BELOW] = 10, [TPS_ABOVE] = 10,
     [WORDS_SHORT] = 8, [NAME_ZERO] = 3, [NAME_UNKNOWN] = 3, [NONE_FREE] = 5, [ID_BELOW] = 4, [ID_ABOVE] = 4, [ID_FREE] = 4,
     [TICKS_ZERO] = 10, [ROUTINE_ZERO] = 9, [CLOCK_UNSET] = 11, [BAD_YEAR] = 20, [BAD_MONTH] = 20, [BAD_DAY] = 20,
     [BAD_HOUR] = 20, [BAD_MINUTE] = 20, [BAD_SECOND] = 20, [DATE_NOT_AFTER] = 20, [BAD_TICKS] = 20,
@@ -80,6 +82,35 @@ const char *const date_case_texts[DATE_CASES] = {
     [TICKS_IGNORED] = "ticks of T or more are ignored",
     [TICKS_PAST_THE_CLOCK] = "the present second is refused with more ticks than the clock's"};
 
+const char *const leap_case_texts[LEAP_CASES] = {
+    [LEAP_NONE] = "there are no ticks", [LEAP_NONE_BEFORE_DUE] = "there are no ticks, and a timer is due at the next",
+    [LEAP_ONE_EMPTY] = "one tick is empty", [LEAP_ONE_DUE] = "a timer is due at the only tick",
+    [LEAP_ALL_EMPTY] = "several ticks are empty", [LEAP_BEFORE_DUE] = "several ticks are empty, and a timer is due at the next",
+    [LEAP_TO_DUE] = "a timer is due at the last of several ticks",
+    [LEAP_PAST_DUE] = "a timer is due at the last tick but one, and not the first",
+    [LEAP_FAR_PAST_DUE] = "a timer is due after some ticks and long before the last",
+    [LEAP_DUE_AT_ONCE] = "a timer is due at the first of several ticks",
+    [LEAP_FIRES_TICKING] = "interval timers alone fire after some ticks",
+    [LEAP_FIRES_DATED] = "dated timers alone fire after some ticks",
+    [LEAP_DUE_BOTH] = "interval and dated timers are due after some ticks",
+    [LEAP_FIRES_PERIODIC] = "a periodic timer fires after some ticks",
+    [LEAP_QUEUES_TICKING] = "interval timers are queued, and no timer is due else, before the last tick",
+    [LEAP_QUEUES_DATED] = "dated timers are queued, and no timer is due else, before the last tick",
+    [LEAP_QUEUES_AND_FIRES] = "a timer is queued and another fires before the last tick",
+    [LEAP_WITH_QUEUE] = "several ticks are empty while timers are queued",
+    [LEAP_OF_MOST] = "a timer is due within 1000000 ticks", [LEAP_OVER_MOST] = "1000000 ticks are empty",
+    [LEAP_IN_THE_SECOND] = "several ticks are empty, all in the clock's second",
+    [LEAP_OVER_SECONDS] = "several ticks are empty that bring the clock over two seconds or more",
+    [LEAP_TO_NEW_SECOND] = "several ticks are empty that bring the clock to the first tick of a second",
+    [LEAP_TO_LAST_TICK] = "several ticks bring the clock just to its last",
+    [LEAP_PAST_LAST_TICK] = "the clock reaches its last tick and ticks are left",
+    [LEAP_AT_LAST_TICK] = "several ticks pass while the clock stands at its last",
+    [LEAP_CLOCK_UNSET] = "several ticks pass while the clock is not set",
+    [LEAP_FAR_DATE] = "the first date is 4294967296 ticks ahead or more",
+    [LEAP_DATE_WRAPS] = "the first date would be near if its ticks had 32 bits",
+    [LEAP_DATE_HALF_WRAPS] = "the first date would be past if its ticks had 32 bits and a sign",
+    [LEAP_JUST_TOO_FAR] = "1000001 ticks alone are refused", [LEAP_FAR_TOO_FAR] = "4294967295 ticks alone are refused"};
+
 const char *const part_texts[PARTS] = {
     [PART_HEADER_SHORT] = "fewer than 10 words", [PART_SLOTS_BELOW] = "no slots", [PART_SLOTS_ABOVE] = "more than 255 slots",
     [PART_WORDS] = "fewer than 10 + 8N words",
@@ -106,7 +137,7 @@ static const uint32_t orders[CALLS][MOST_REFUSALS] = {
     [FIRE_AFTER] = {100, 10, 9, 4}, [FIRE_WHEN] = {100, 11, 9, 20, 4}, [FIRE_EVERY] = {100, 10, 9, 4},
     [RESET] = {100, 4, 11}, [TICKS_LEFT] = {100, 4}, [TICK] = {100, 101}, [SET_CLOCK] = {100, 101, 20},
     [GET_CLOCK] = {100, 11}, [NEXT_DUE] = {100}, [INITIATE_SERVER] = {100, 14}, [SERVER_FIRE_AFTER] = {100, 14, 10, 9, 4},
-    [SERVER_FIRE_WHEN] = {100, 14, 11, 9, 20, 4}, [SERVE] = {100, 101, 14}};
+    [SERVER_FIRE_WHEN] = {100, 14, 11, 9, 20, 4}, [SERVE] = {100, 101, 14}, [LEAP] = {100, 101, 10}};
 
 /* ---- Reasons, calls and kinds ---- */
 
@@ -375,6 +406,8 @@ static uint64_t faults_of(const struct oracle *o, const struct call *c)
         return bit(NOT_INITIATED, !o->initiated) | fire_when_faults(o, c);
     case SERVE:
         return bit(SERVED_SHORT, c->fired_words < FIRED_WORDS) | bit(NOT_INITIATED, !o->initiated);
+    case LEAP:
+        return bit(LIST_SHORT, list_short) | bit(LEAP_TOO_FAR, c->ticks > MOST_LEAP);
     }
     abort();    /* there is no such call */
 }
@@ -445,6 +478,8 @@ static uint64_t argument_faults(const struct call *c, const uint32_t *table)
         return bit(NOT_INITIATED, not_initiated) | fire_when_argument_faults(c, clock_unset);
     case SERVE:
         return bit(SERVED_SHORT, c->fired_words < FIRED_WORDS) | bit(NOT_INITIATED, not_initiated);
+    case LEAP:
+        return bit(LIST_SHORT, list_short) | bit(LEAP_TOO_FAR, c->ticks > MOST_LEAP);
     }
     abort();    /* there is no such call */
 }
@@ -454,7 +489,7 @@ static void clear(struct outcome *outcome)
     outcome->timer_kind = KIND_FREE;
     outcome->queue_place = NOT_QUEUED;
     outcome->last_event = CREATED;
-    outcome->queued_before = outcome->answer = outcome->due_count = 0;
+    outcome->queued_before = outcome->answer = outcome->done = outcome->due_count = 0;
     outcome->clock_set_before = false;
     outcome->seconds_before = outcome->clock_ticks_before = 0;
     outcome->moved = 0;
@@ -586,6 +621,15 @@ static void tick(struct oracle *o, struct outcome *out)
     o->seconds = (uint32_t)(clock / o->ticks_per_second);
     o->clock_ticks = (uint32_t)(clock % o->ticks_per_second);
     fire_due(o, BY_DATE, o->seconds, out);
+}
+
+/* One tick after the other, up to the first in which a timer is due. (The baseline jumps over those before it.) */
+static void leap(struct oracle *o, uint32_t ticks, struct outcome *out)
+{
+    while (out->done < ticks && out->due_count == 0) {
+        tick(o, out);
+        out->done++;
+    }
 }
 
 static void take_off_queue(struct oracle *o, uint32_t index)
@@ -728,6 +772,9 @@ static void apply(struct oracle *o, const struct call *c, struct outcome *out)
         break;
     case SERVE:
         serve(o, out);
+        break;
+    case LEAP:
+        leap(o, c->ticks, out);
         break;
     }
 }
@@ -1094,6 +1141,8 @@ bool oracle_possible(enum call_kind kind, enum reason reason)
         return reason == NOT_INITIATED || oracle_possible(FIRE_WHEN, reason);
     case SERVE:
         return reason == TABLE_NOT_SOUND || reason == SERVED_SHORT || reason == NOT_INITIATED;
+    case LEAP:
+        return reason == TABLE_NOT_SOUND || reason == LIST_SHORT || reason == LEAP_TOO_FAR;
     }
     abort();    /* there is no such call */
 }
@@ -1223,7 +1272,7 @@ bool oracle_turn_possible(enum call_kind kind, enum turn turn)
     if (kind == SET_CLOCK)
         return turn == DATED_QUEUED_AFTER_FIRED || turn == DATED_FIRED_AFTER_QUEUED || turn == DATED_QUEUED_AFTER_QUEUED ||
                turn == QUEUED_BEHIND_OTHERS || turn == QUEUED_AND_NONE_FIRED;
-    return kind == TICK;
+    return kind == TICK || kind == LEAP;
 }
 
 static uint32_t date_case(enum date_case date_case, bool met)
@@ -1284,6 +1333,105 @@ bool oracle_date_case_possible(enum call_kind kind, enum date_case date_case)
     if (kind == FIRE_WHEN || kind == SERVER_FIRE_WHEN)
         return date_case == TICKS_IGNORED || date_case == TICKS_PAST_THE_CLOCK;
     return kind == SET_CLOCK && date_case < TICKS_IGNORED;
+}
+
+/* The ticks until the first timer by this kind of start is due; UINT64_MAX if none waits. */
+static uint64_t ticks_to_due(const struct oracle *o, int started)
+{
+    uint64_t least = UINT64_MAX;
+    for (uint32_t i = 1; i <= o->slots; i++) {
+        const struct oracle_timer *t = &o->timer[i];
+        if (!t->exists || !t->waiting || (int)t->started != started)
+            continue;
+        uint64_t ticks = started == BY_DATE ? t->due * o->ticks_per_second - clock_reading(o) : t->due - o->ticks;
+        if (ticks < least)
+            least = ticks;
+    }
+    return least;
+}
+
+uint64_t oracle_ticks_to_due(const struct oracle *o)
+{
+    uint64_t ticking = ticks_to_due(o, BY_INTERVAL), dated = ticks_to_due(o, BY_DATE);
+    return ticking < dated ? ticking : dated;
+}
+
+static uint64_t leap_case(enum leap_case leap_case, bool met)
+{
+    return met ? UINT64_C(1) << leap_case : 0;
+}
+
+/* What a leap came to in which a timer is due. */
+static uint64_t cases_of_due(const struct call *c, const struct oracle *after, const struct outcome *out)
+{
+    bool ticking = false, dated = false, periodic = false, some = out->done > 1, sooner = out->done < c->ticks;
+    for (uint32_t k = 0; k < out->due_count; k++) {
+        const struct oracle_timer *t = &after->timer[out->due[k]];
+        ticking = ticking || t->started == BY_INTERVAL;
+        dated = dated || t->started == BY_DATE;
+        periodic = periodic || t->periodic;
+    }
+    bool all_fire = out->answer == out->due_count, none_fires = out->answer == 0;
+    return leap_case(LEAP_ONE_DUE, c->ticks == 1) | leap_case(LEAP_TO_DUE, some && !sooner) |
+           leap_case(LEAP_PAST_DUE, some && out->done + 1 == c->ticks) |
+           leap_case(LEAP_FAR_PAST_DUE, some && out->done + 2 < c->ticks) |
+           leap_case(LEAP_DUE_AT_ONCE, !some && sooner) |
+           leap_case(LEAP_FIRES_TICKING, some && all_fire && !dated) |
+           leap_case(LEAP_FIRES_DATED, some && all_fire && !ticking) |
+           leap_case(LEAP_DUE_BOTH, some && ticking && dated) |
+           leap_case(LEAP_FIRES_PERIODIC, some && periodic) |
+           leap_case(LEAP_QUEUES_TICKING, some && sooner && none_fires && !dated) |
+           leap_case(LEAP_QUEUES_DATED, some && sooner && none_fires && !ticking) |
+           leap_case(LEAP_QUEUES_AND_FIRES, some && sooner && !none_fires && !all_fire) |
+           leap_case(LEAP_OF_MOST, some && c->ticks == MOST_LEAP);
+}
+
+/* What several empty ticks come to for the clock. */
+static uint64_t cases_of_clock(const struct oracle *after, const struct outcome *out)
+{
+    uint64_t last = ((uint64_t)LAST_SECOND + 1) * after->ticks_per_second - 1, now = clock_reading(after);
+    uint64_t before = (uint64_t)out->seconds_before * after->ticks_per_second + out->clock_ticks_before;
+    uint32_t seconds = after->seconds - out->seconds_before;
+    if (!out->clock_set_before)
+        return leap_case(LEAP_CLOCK_UNSET, true);
+    return leap_case(LEAP_IN_THE_SECOND, seconds == 0 && now < last) | leap_case(LEAP_OVER_SECONDS, seconds >= 2) |
+           leap_case(LEAP_TO_NEW_SECOND, after->clock_ticks == 0 && after->ticks_per_second > 1) |
+           leap_case(LEAP_TO_LAST_TICK, before + out->done == last) |
+           leap_case(LEAP_PAST_LAST_TICK, before < last && before + out->done > last) |
+           leap_case(LEAP_AT_LAST_TICK, before == last);
+}
+
+/* What several empty ticks come to by how far the first date was ahead of them. */
+static uint64_t cases_of_date(const struct oracle *after, const struct outcome *out)
+{
+    uint64_t left = ticks_to_due(after, BY_DATE), ahead = left + out->done, wrap = UINT64_C(1) << 32;
+    if (left == UINT64_MAX)
+        return 0;
+    return leap_case(LEAP_FAR_DATE, ahead >= wrap) | leap_case(LEAP_DATE_WRAPS, ahead >= wrap && ahead - wrap < out->done) |
+           leap_case(LEAP_DATE_HALF_WRAPS, ahead >= wrap / 2 && ahead < wrap);
+}
+
+/* What a leap came to in which no timer is due. */
+static uint64_t cases_of_empty(const struct oracle *after, const struct outcome *out)
+{
+    uint64_t left = oracle_ticks_to_due(after);
+    if (out->done < 2)
+        return leap_case(LEAP_NONE, out->done == 0) | leap_case(LEAP_NONE_BEFORE_DUE, out->done == 0 && left == 1) |
+               leap_case(LEAP_ONE_EMPTY, out->done == 1);
+    return leap_case(LEAP_ALL_EMPTY, true) | leap_case(LEAP_BEFORE_DUE, left == 1) |
+           leap_case(LEAP_WITH_QUEUE, out->queued_before > 0) | leap_case(LEAP_OVER_MOST, out->done == MOST_LEAP) |
+           cases_of_clock(after, out) | cases_of_date(after, out);
+}
+
+uint64_t oracle_leap_cases(const struct call *c, const struct oracle *after, const struct outcome *out)
+{
+    bool alone = out->applying == bit(LEAP_TOO_FAR, true);
+    if (c->kind != LEAP)
+        return 0;
+    if (out->reason != ACCEPTED)
+        return leap_case(LEAP_JUST_TOO_FAR, alone && c->ticks == MOST_LEAP + 1) |
+               leap_case(LEAP_FAR_TOO_FAR, alone && c->ticks == UINT32_MAX);
+    return out->due_count > 0 ? cases_of_due(c, after, out) : cases_of_empty(after, out);
 }
 
 #define KIND_BIT(kind) (1u << (kind))

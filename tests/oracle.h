@@ -30,6 +30,7 @@ _Static_assert(HEADER_WORDS == 10 && SLOT_WORDS == 8 && FIRED_WORDS == 3 && KIND
 enum { MAX_TABLE = HEADER_WORDS + SLOT_WORDS * MAX_SLOTS, MAX_LIST = FIRED_WORDS * MAX_SLOTS };
 #define ID_BASE 0x12010000u
 #define LAST_SECOND 3534451199u
+#define MOST_LEAP 1000000u
 
 /* Words that a table of so many slots takes and that its fired list must have, and also those of so many entries; in 64 bits,
  * since slot counts that are too high are tried too. */
@@ -58,9 +59,9 @@ static inline size_t fired_at(uint32_t k, enum fired_word word)
 
 enum call_kind {
     LAY_OUT, CREATE, IDENT, CANCEL, DELETE, FIRE_AFTER, FIRE_WHEN, FIRE_EVERY, RESET, TICKS_LEFT, TICK, SET_CLOCK,
-    GET_CLOCK, NEXT_DUE, INITIATE_SERVER, SERVER_FIRE_AFTER, SERVER_FIRE_WHEN, SERVE
+    GET_CLOCK, NEXT_DUE, INITIATE_SERVER, SERVER_FIRE_AFTER, SERVER_FIRE_WHEN, SERVE, LEAP
 };
-enum { CALLS = SERVE + 1 };         /* no call itself, so that a switch over the calls needs no other case */
+enum { CALLS = LEAP + 1 };          /* no call itself, so that a switch over the calls needs no other case */
 
 /* One call with its arguments; those that its kind does not take are not looked at. */
 struct call {
@@ -75,7 +76,7 @@ struct call {
 /* Why a call is refused: finer than the statuses, so that a test can tell which of them it has met. */
 enum reason {
     ACCEPTED,
-    TABLE_NOT_SOUND, LIST_SHORT, SERVED_SHORT, INITIATED_ALREADY, NOT_INITIATED, NOTHING_TO_CANCEL,
+    TABLE_NOT_SOUND, LIST_SHORT, SERVED_SHORT, LEAP_TOO_FAR, INITIATED_ALREADY, NOT_INITIATED, NOTHING_TO_CANCEL,
     SLOTS_BELOW, SLOTS_ABOVE, TPS_BELOW, TPS_ABOVE, WORDS_SHORT,
     NAME_ZERO, NAME_UNKNOWN, NONE_FREE,
     ID_BELOW, ID_ABOVE, ID_FREE,
@@ -105,9 +106,11 @@ struct outcome {
     uint32_t seconds_before, clock_ticks_before;
     uint32_t answer;
     int64_t moved;                  /* set clock's second answer */
+    uint32_t done;                  /* leap's first answer */
     struct hc_wall_time clock;      /* get clock's answer */
-    uint32_t fired[MAX_LIST];       /* as many entries as the answer, for tick, set clock and serve */
-    uint32_t due[MAX_SLOTS], due_count;     /* the slots that came due in a tick or set clock, fired and queued, in order */
+    uint32_t fired[MAX_LIST];       /* as many entries as the answer, for tick, set clock, serve and leap */
+    uint32_t due[MAX_SLOTS], due_count;     /* the slots that came due in a tick, set clock or leap, fired and queued, in
+                                               order */
 };
 _Static_assert(REASONS <= 64, "a set of reasons fits its word");
 
@@ -132,8 +135,8 @@ struct oracle {
     uint32_t queue[MAX_SLOTS], queued;      /* slots from the front, and how many */
 };
 
-/* What a tick or set clock may come to, a bit each in what oracle_turns gives. Calls alone lead to no table where, of timers
- * due at the same tick, one with a shorter interval stands ahead of one with a longer: that one was started earlier. */
+/* What a tick, set clock or leap may come to, a bit each in what oracle_turns gives. Calls alone lead to no table where, of
+ * timers due at the same tick, one with a shorter interval stands ahead of one with a longer: that one was started earlier. */
 enum turn {
     PERIODIC_AFTER_ONE_SHOT, ONE_SHOT_AFTER_PERIODIC, DATED_AFTER_PERIODIC, BACK_AFTER_EQUAL, BACK_AFTER_LONGER,
     BACK_BEHIND_OTHER, BACK_AHEAD_OF_LATER, BACK_BESIDE_QUEUED,
@@ -152,6 +155,17 @@ enum date_case {
     REFUSED_FAR_ABOVE, TICKS_AND_NOT_SOUND, TICKS_AND_LIST_SHORT, TICKS_IGNORED, TICKS_PAST_THE_CLOCK, DATE_CASES
 };
 _Static_assert(DATE_CASES <= 32, "a set of cases fits a word");
+
+/* What a leap may come to, a bit each in what oracle_leap_cases gives. */
+enum leap_case {
+    LEAP_NONE, LEAP_NONE_BEFORE_DUE, LEAP_ONE_EMPTY, LEAP_ONE_DUE, LEAP_ALL_EMPTY, LEAP_BEFORE_DUE, LEAP_TO_DUE,
+    LEAP_PAST_DUE, LEAP_FAR_PAST_DUE, LEAP_DUE_AT_ONCE, LEAP_FIRES_TICKING, LEAP_FIRES_DATED, LEAP_DUE_BOTH,
+    LEAP_FIRES_PERIODIC, LEAP_QUEUES_TICKING, LEAP_QUEUES_DATED, LEAP_QUEUES_AND_FIRES, LEAP_WITH_QUEUE, LEAP_OF_MOST,
+    LEAP_OVER_MOST,
+    LEAP_IN_THE_SECOND, LEAP_OVER_SECONDS, LEAP_TO_NEW_SECOND, LEAP_TO_LAST_TICK, LEAP_PAST_LAST_TICK, LEAP_AT_LAST_TICK,
+    LEAP_CLOCK_UNSET, LEAP_FAR_DATE, LEAP_DATE_WRAPS, LEAP_DATE_HALF_WRAPS, LEAP_JUST_TOO_FAR, LEAP_FAR_TOO_FAR, LEAP_CASES
+};
+_Static_assert(LEAP_CASES <= 64, "a set of cases fits its word");
 
 /* The parts of soundness, a bit each in what oracle_broken gives. */
 enum part {
@@ -173,6 +187,7 @@ extern const char *const queue_place_texts[QUEUE_PLACES];
 extern const char *const event_texts[EVENTS];
 extern const char *const turn_texts[TURNS];
 extern const char *const date_case_texts[DATE_CASES];
+extern const char *const leap_case_texts[LEAP_CASES];
 extern const char *const part_texts[PARTS];
 
 /* What the call gives on this state, and the state after it. */
@@ -203,7 +218,7 @@ void oracle_date_of(uint32_t seconds, struct hc_wall_time *time);
 bool oracle_possible(enum call_kind kind, enum reason reason);
 bool oracle_pair_possible(enum call_kind kind, uint32_t first, uint32_t second);
 
-/* What an accepted tick or set clock came to that gave this and left this state; and may this call come to that. */
+/* What an accepted tick, set clock or leap came to that gave this and left this state; and may this call come to that. */
 uint32_t oracle_turns(const struct oracle *after, const struct outcome *outcome);
 bool oracle_turn_possible(enum call_kind kind, enum turn turn);
 
@@ -211,6 +226,12 @@ bool oracle_turn_possible(enum call_kind kind, enum turn turn);
  * that. */
 uint32_t oracle_date_cases(const struct call *call, const struct oracle *after, const struct outcome *outcome);
 bool oracle_date_case_possible(enum call_kind kind, enum date_case date_case);
+
+/* What a leap came to that gave this and left this state. */
+uint64_t oracle_leap_cases(const struct call *call, const struct oracle *after, const struct outcome *outcome);
+
+/* The ticks until the first timer is due, by interval or by date; UINT64_MAX if none waits. */
+uint64_t oracle_ticks_to_due(const struct oracle *state);
 
 /* Does the call take an id. */
 bool oracle_takes_id(enum call_kind kind);

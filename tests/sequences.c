@@ -164,7 +164,7 @@ int main(int count, char **arguments)
            seed, calls, place.table, locked_tables, started_tables, table_pairs, cut_slices, longest_queue);
     report_met();
     unsigned missing = statuses_not_met() + kinds_not_met() + turns_not_met(TURNS_OF_CALLS) + queue_not_met() +
-                       cancels_not_met() + date_cases_not_met();
+                       cancels_not_met() + date_cases_not_met() + leap_cases_not_met();
     place.call = NULL, place.table = 0;
     if (missing)
         fail("%u cases were not met", missing);

@@ -58,3 +58,12 @@ module _ (t : List ℕ) (c : Call) where
       (λ j. outcomeOf (statusOf (e j)) (answerOf (e j)) t (lentTo c))
       ∙ (λ j. outcomeOf (numberOf s) (zeros j) t (lentTo c))
       ∙ sym (refused-by t c s (status-is t c ∙ ap firstOf is ∙ o .stopped s e more))
+
+  -- the same of a call with more numbers in its answer
+  pub refuses-with : {first : List Refusal} {P : ℕ → Type 0} {r : Answer} {s : Status} → Opens first P r → r ≡ Refused s
+      → (more : List Refusal) → rules t c ≡ first ++ more → (others : List ℕ) → _≡_ {A = List ℕ} (0 ∷ others) (replicate (answerCount c) 0)
+      → outcomeOf (statusOf r) (answerOf r ++ others) t (lentTo c) ≡ outcome t c
+  refuses-with {s = s} o e more is others zeros =
+      (λ j. outcomeOf (statusOf (e j)) (answerOf (e j) ++ others) t (lentTo c))
+      ∙ (λ j. outcomeOf (numberOf s) (zeros j) t (lentTo c))
+      ∙ sym (refused-by t c s (status-is t c ∙ ap firstOf is ∙ o .stopped s e more))

@@ -23,6 +23,12 @@ pub struct Setting {
     pub moved: i64,
 }
 
+// What leap answers: how many timers fired, or refused; and how many ticks were done, 0 where it is refused.
+pub struct Progress {
+    pub answer: Answer,
+    pub done: u32,
+}
+
 // The status of an answer, as a number.
 pub fn status_of(answer: Answer) -> u32
     ensures { λ r. ⌜ r ≡ statusOf answer ⌝ }

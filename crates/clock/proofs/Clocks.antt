@@ -1,5 +1,5 @@
 -- The clock of a sound table, as the calls that ask for it find it. Assumes nothing.
-use mathlib.Core.Path.{_≡_, refl, sym, ap, _∙_, subst}
+use mathlib.Core.Path.{_≡_, refl, sym, ap, ap₂, _∙_, subst}
 use Prim.Native.Nat.{ℕ, _≤_, _<_}
 use native.Mathlib.Omega.{arith}
 use mathlib.Core.Bool.{Bool, true, false, not, _&&_}
@@ -21,8 +21,8 @@ use Rattle.model.specs.declared.Chain.{Chain}
 use Rattle.model.specs.declared.Chain.the-variants.{ByDate}
 use Rattle.model.specs.Lists.{All}
 use Rattle.model.specs.Status.{numberOf}
-use Rattle.model.specs.Calls.{tick, setClock}
-use Rattle.model.specs.Directives.{notSettable, clockAt, clockStep, movedBy, numbers}
+use Rattle.model.specs.Calls.{tick, setClock, leap}
+use Rattle.model.specs.Directives.{notSettable, clockAt, ticked, movedBy, numbers}
 use Rattle.model.specs.Words.{read, ticksPerSecond, seconds, ticksInto}
 use Rattle.model.specs.Sound.{sound}
 use Rattle.model.specs.Outcome.{Outcome, outcomeOf, statusOn, outcome, movement}
@@ -30,14 +30,16 @@ use Rattle.model.proofs.ListLaws.{cases, and-both}
 use Rattle.model.proofs.StatusLaws.{not-zero}
 use Rattle.model.proofs.OutcomeLaws.{outcome-status}
 use Rattle.model.proofs.SoundHolds.{sound-header}
-use Rattle.firing.proofs.Ticks.{Leaves, tickedTo, movedTo}
+use Rattle.firing.specs.Lists.{Leaves}
+use Rattle.firing.proofs.Ticks.{movedTo}
+use Rattle.leaping.specs.Leaps.{Ready, LeapLeaves}
 use Rattle.answers.specs.declared.Answer.{Answer}
 use Rattle.answers.specs.declared.Answer.the-variants.{Refused}
 use Rattle.answers.specs.Answers.{statusOf, answerOf}
 use Rattle.answers.specs.Openings.{Opens}
 use Rattle.answers.proofs.Openings.{refuses-as}
 use Rattle.answers.proofs.Replies.{rules, refuses, done}
-use Rattle.clock.specs.Lent.{onList}
+use Rattle.clock.specs.Lent.{onList, Lent}
 
 module _ (t : List ℕ) where
   -- the seconds of a sound table are not past the last
@@ -111,12 +113,18 @@ set-clock-done t w list {k} {limit} {s} {m} {u} {list′} none e l chain to =
     let left = subst (λ (d : ℕ). Leaves t list (movedTo ByDate d (read t) d (w .ticks)) m u list′) e now in
     done t (setClock w list) (m ∷ []) u list′ none (left .answer) (left .table) (left .entries)
 
--- ---- tick: it fires at no ticks left, and up to the second that the clock has come to
+-- ---- tick
 
-pub tick-done : (t list : List ℕ) {limit second m : ℕ} {u list′ : List ℕ} → All (λ r. r .given ≡ false) (rules t (tick list))
-    → second ≡ clockStep (read t .clock) .second → Leaves t list (tickedTo limit second (read t)) m u list′ → limit ≡ 0
-    → outcomeOf 0 (m ∷ []) u list′ ≡ outcome t (tick list)
-tick-done t list {limit} {second} {m} {u} {list′} none e l at =
-    let first = subst (λ (d : ℕ). Leaves t list (tickedTo d second (read t)) m u list′) at l in
-    let left = subst (λ (d : ℕ). Leaves t list (tickedTo 0 d (read t)) m u list′) e first in
-    done t (tick list) (m ∷ []) u list′ none (left .answer) (left .table) (left .entries)
+pub lent-ready : (t list : List ℕ) {end : ℕ} → Lent t list end → Ready t list end
+lent-ready t list l = record { ok = l .ok; long = l .long; last = l .last }
+
+pub tick-done : (t list : List ℕ) {m : ℕ} {u list′ : List ℕ} → All (λ r. r .given ≡ false) (rules t (tick list))
+    → Leaves t list (ticked (read t)) m u list′ → outcomeOf 0 (m ∷ []) u list′ ≡ outcome t (tick list)
+tick-done t list {m} {u} {list′} none l = done t (tick list) (m ∷ []) u list′ none (l .answer) (l .table) (l .entries)
+
+-- ---- leap
+
+pub leap-done : (t list : List ℕ) {k m d : ℕ} {u list′ : List ℕ} → All (λ r. r .given ≡ false) (rules t (leap k list))
+    → LeapLeaves t list k m d u list′ → outcomeOf 0 (m ∷ d ∷ []) u list′ ≡ outcome t (leap k list)
+leap-done t list {k} {m} {d} {u} {list′} none l =
+    done t (leap k list) (m ∷ d ∷ []) u list′ none (ap₂ {C = List ℕ} (λ (a b : ℕ). a ∷ b ∷ []) (l .fired) (l .ticks)) (l .table) (l .entries)

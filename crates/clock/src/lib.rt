@@ -1,8 +1,8 @@
-// The clock: a tick, set clock and get clock. Their contracts are as those of crate `timer`, set clock's with a second equation; `readingStatus` and `readingAnswer`
+// The clock: a tick, a leap, set clock and get clock. Their contracts are as those of crate `timer`, set clock's with a second equation; `readingStatus` and `readingAnswer`
 // (answers/specs/Answers.antt) say what get clock's answer is in document 01's numbers.
 ghost use mathlib.Core.Path.{_≡_};
 ghost use mathlib.Core.Bool.{true};
-ghost use mathlib.Core.List.{[]};
+ghost use mathlib.Core.List.{[], _∷_, _++_};
 ghost use Prim.Native.Nat.{_+_, _*_, _^_, _<_, _≤_};
 ghost use lib.IntN.{pos, _-ℤ_};
 ghost use Rattle.model.specs.Calls as call;
@@ -14,15 +14,15 @@ ghost use Rattle.answers.specs.Answers.{statusOf, answerOf, readingStatus, read
 ghost use Rattle.answers.specs.Openings.{Opens};
 ghost use Rattle.clock.specs.Lent.{onList, Lent};
 use answers::Answer;
+use answers::Progress;
 use answers::Reading;
 use answers::Setting;
 use calendar::Date;
 use calendar::Instant;
 use calendar::WallTime;
-use firing::come_nearer;
 use firing::fire;
-use firing::step_clock;
 use going_on::ENTRY;
+use leaping::MOST_LEAP;
 use model::Chain;
 use model::Status;
 use soundness::Verdict;
@@ -53,14 +53,34 @@ pub fn tick(table: &mut [u32], fired: &mut [u32]) -> Answer
     let Answer::Done(end) = opened else {
         return opened;
     };
-    come_nearer(table);
-    let ticking = fire(table, fired, Chain::ByTicks, 0, 0, end);
-    step_clock(table);
-    let second = table[SECONDS];
-    let listed = ticking.count;
-    let last = ticking.end;
-    let dated = fire(table, fired, Chain::ByDate, second, listed, last);
-    Answer::Done(dated.count)
+    let listed = leaping::tick(table, fired, end);
+    Answer::Done(listed)
+}
+
+// A leap by so many ticks: it stops after the first one that fires or queues a timer. Answers how many fired, and how many ticks were done.
+pub fn leap(table: &mut [u32], ticks: u32, fired: &mut [u32]) -> Progress
+    ensures { λ r. ⌜ outcomeOf (statusOf (r .answer)) (answerOf (r .answer) ++ (r .done ∷ [])) (now (table .exit)) (now (fired .exit)) ≡ outcome (now (table .entry)) (call.leap ticks (now (fired .entry))) ⌝ }
+{
+    let opened = open_list(table, fired);
+    let Answer::Done(end) = opened else {
+        return Progress {
+            answer: opened,
+            done: 0,
+        };
+    };
+    if MOST_LEAP < ticks {
+        return Progress {
+            answer: Answer::Refused(Status::InvalidNumber),
+            done: 0,
+        };
+    }
+    let gone = leaping::leap(table, ticks, fired, end);
+    let count = gone.count;
+    let done = gone.done;
+    Progress {
+        answer: Answer::Done(count),
+        done: done,
+    }
 }
 
 // A second, so many ticks into it, counted in ticks.

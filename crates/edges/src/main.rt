@@ -6,6 +6,7 @@ ghost use mathlib.Core.Path.{_≡_};
 ghost use lib.ListN.{length};
 ghost use lib.IntN.{natAbs};
 use answers::Answer;
+use answers::Progress;
 use answers::Reading;
 use answers::Setting;
 use calendar::WallTime;
@@ -56,6 +57,8 @@ const SERVER_FIRE_WHEN: u32 = 17;
 
 const SERVE: u32 = 18;
 
+const LEAP: u32 = 19;
+
 // Steps that are no calls: none; so many words of the list are printed; a word of the table becomes a number.
 const NONE: u32 = 0;
 
@@ -71,6 +74,8 @@ const SHORT_CREATE: u32 = 102;
 const SHORT_TICK: u32 = 110;
 
 const SHORT_SET_CLOCK: u32 = 111;
+
+const SHORT_LEAP: u32 = 119;
 
 const SHORT_NEXT_DUE: u32 = 114;
 
@@ -165,6 +170,14 @@ fn show_setting(setting: Setting) {
     print_signed(moved);
 }
 
+// Prints what leap answers: status, count and the ticks done.
+fn show_progress(progress: Progress) {
+    let answer = progress.answer;
+    let done = progress.done;
+    show(answer);
+    print(done);
+}
+
 // Prints what get clock answers: seven zeros where it is refused.
 fn show_reading(reading: Reading) {
     match reading {
@@ -250,6 +263,12 @@ fn set_short(table: &mut [u32; TABLE], time: WallTime) {
     show_setting(set_clock(table, time, &mut list));
 }
 
+// Leaps, lent a word too few for three slots.
+fn leap_short(table: &mut [u32; TABLE], ticks: u32) {
+    let mut list = [0u32; LIST - 1];
+    show_progress(leap(table, ticks, &mut list));
+}
+
 // Takes a step and prints what comes of it.
 fn play(step: Step, table: &mut [u32; TABLE], list: &mut [u32; LIST]) {
     let number = step.number;
@@ -257,6 +276,8 @@ fn play(step: Step, table: &mut [u32; TABLE], list: &mut [u32; LIST]) {
         NONE => {}
         SET_CLOCK => show_setting(set_clock(table, wall_time(step.a, step.b, step.c), list)),
         SHORT_SET_CLOCK => set_short(table, wall_time(step.a, step.b, step.c)),
+        LEAP => show_progress(leap(table, step.a, list)),
+        SHORT_LEAP => leap_short(table, step.a),
         GET_CLOCK => show_reading(get_clock(table)),
         PRINT_LIST => print_list(list, step.a),
         _ => show(call(number, step.a, step.b, step.c, step.d, step.e, table, list)),

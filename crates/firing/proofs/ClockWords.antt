@@ -34,7 +34,7 @@ module _ (t : List ℕ) (s : State) (is : writtenOver s t ≡ t) (second into : 
   clock-placed = ap (λ (u : List ℕ). set (set (set u 2 1) 3 second) 4 into) (sym is) ∙ ap (clockStored s 1 second into) same
 
   -- a clock that is set goes on
-  clock-moved : s .clock .isSet ≡ true → set (set t 4 into) 3 second ≡ writtenOver (withClock s (clockAt (s .clock) second into)) t
+  pub clock-moved : s .clock .isSet ≡ true → set (set t 4 into) 3 second ≡ writtenOver (withClock s (clockAt (s .clock) second into)) t
   clock-moved on =
       ap (λ (u : List ℕ). set (set u 4 into) 3 second) (sym is)
       ∙ ap₂ (λ (b : Bool) (r : List ℕ). clockStored s (cond b 1 0) second into r) on same

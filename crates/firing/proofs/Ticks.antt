@@ -26,7 +26,7 @@ use Rattle.model.proofs.Steps.{memo-fire, fire-clock, fire-elsewhere, chained-n
 use Rattle.model.proofs.SoundHolds.{sound-holds, sound-well-formed}
 use Rattle.links.proofs.NextState.{Next, next-start, next-read, next-holds, next-then}
 use Rattle.links.specs.Places.{lastSlot}
-use Rattle.firing.specs.Lists.{EndsAt, Room, dueListed, Fires}
+use Rattle.firing.specs.Lists.{EndsAt, Room, dueListed, Fires, Leaves}
 use Rattle.firing.proofs.TwoRounds.{isServerAt}
 use Rattle.model.proofs.ListWords.{entries-append, length-entries}
 use Rattle.firing.proofs.Entries.{sets-append, sets-written, same-entries}
@@ -54,12 +54,6 @@ tickedTo limit second s =
 abbrev pub movedTo : Chain → ℕ → State → ℕ → ℕ → Effect
 movedTo k limit s second into =
     let later = withClock s (clockAt (s .clock) second into) in firing (fire k limit later) (withoutServer (s .slots) (due k limit later))
-
--- the words are those that a call leaves, with its answer
-pub record Leaves (t list : List ℕ) (e : Effect) (m : ℕ) (u list′ : List ℕ) : Type 0 where
-  pub table : u ≡ writtenOver (e .state) t
-  pub answer : m ∷ [] ≡ e .answer
-  pub entries : list′ ≡ written (map (listed (read t .slots)) (e .fired)) list
 
 module _ (t list : List ℕ) (ok : sound t ≡ true) (long : 3 * slotCount t ≤ length list) {end : ℕ} (ends : EndsAt t end) where
   start : Next t (read t) t

@@ -11,9 +11,9 @@ use Rattle.model.specs.declared.Chain.the-variants.{ByTicks, Queue}
 use Rattle.model.specs.Lists.{any}
 use Rattle.model.specs.Kinds.{kindAt, sameChain, waitsIn, forServer}
 use Rattle.model.specs.State.{Slot, Link, State, slotAt, idBase, listed}
-use Rattle.model.specs.Directives.{stopped, idled, due, fire, withoutServer}
+use Rattle.model.specs.Directives.{stopped, idled, due, fire, withoutServer, Effect}
 use Rattle.model.specs.Words.{read, writtenOver, kindOf, waitOf, routineOf, dataOf, nextOf, previousOf}
-use Rattle.model.specs.Outcome.{entryWords}
+use Rattle.model.specs.Outcome.{entryWords, written}
 use Rattle.model.proofs.KindLaws.{periodic}
 use Rattle.model.proofs.WellFormed.{Holds}
 use Rattle.links.specs.Places.{lastSlot, InTable}
@@ -107,3 +107,9 @@ pub record Fires (k : Chain) (t list : List ℕ) (limit from number end : ℕ) (
   pub last : EndsAt t′ end
   pub table : t′ ≡ writtenOver (fire k limit (read t)) t
   pub entries : list′ ≡ listing k limit t from list
+
+-- the words are those that a call leaves, with its answer
+pub record Leaves (t list : List ℕ) (e : Effect) (m : ℕ) (u list′ : List ℕ) : Type 0 where
+  pub table : u ≡ writtenOver (e .state) t
+  pub answer : m ∷ [] ≡ e .answer
+  pub entries : list′ ≡ written (map (listed (read t .slots)) (e .fired)) list

@@ -2,17 +2,17 @@
 // goes to the back of the queue, any other is listed. Then the periodic ones, which the list names in the order in which they fired, go back into
 // the interval chain.
 ghost use mathlib.Core.Path.{_≡_};
-ghost use mathlib.Core.Bool.{true, false};
+ghost use mathlib.Core.Bool.{false};
 ghost use mathlib.Core.List.{[], _∷_};
 ghost use Prim.Native.Nat.{_+_, _*_, _<_, _≤_};
 ghost use lib.ListN.{length};
 ghost use lib.Seq.{sets};
 ghost use Rattle.model.specs.State.{withClock};
-ghost use Rattle.model.specs.Directives.{nearer, clockAt, clockStep};
+ghost use Rattle.model.specs.Directives.{clockAt, clockStep};
 ghost use Rattle.model.specs.Words.{read, writtenOver, ticksInto};
-ghost use Rattle.model.specs.Sound.{sound};
 ghost use Rattle.model.proofs.WellFormed.{Holds};
 ghost use Rattle.firing.specs.Lists.{Room, ComesOff, CameOff, Turns, tallyOf, Turned, TakesOff, Fires};
+ghost use Rattle.firing.specs.Nearer.{nearerBy, Nearable};
 use chains::follower;
 use going_on::ENTRY;
 use going_on::put_back;
@@ -149,15 +149,15 @@ pub fn fire(t: &mut [u32], list: &mut [u32], chain: Chain, limit: u32, from: u32
     }
 }
 
-// Every interval timer comes one tick nearer: the first one's wait falls, and those behind it count from it.
-pub fn come_nearer(t: &mut [u32])
-    requires { ⌜ sound (now t) ≡ true ⌝ }
-    ensures { λ _. ⌜ now (t .exit) ≡ writtenOver (nearer (read (now (t .entry)))) (now (t .entry)) ⌝ }
+// Every interval timer comes some ticks nearer: the first one's wait falls, and those behind it count from it.
+pub fn come_nearer(t: &mut [u32], ticks: u32)
+    requires { ⌜ Nearable (now t) ticks ⌝ }
+    ensures { λ _. ⌜ now (t .exit) ≡ writtenOver (nearerBy ticks (read (now (t .entry)))) (now (t .entry)) ⌝ }
 {
     let i = t[FIRST_TICKING];
     if i != 0 {
         let w = get(t, i, WAIT);
-        put(t, i, WAIT, w - 1);
+        put(t, i, WAIT, w - ticks);
     }
 }
 

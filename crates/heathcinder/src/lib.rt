@@ -1,6 +1,6 @@
 // The timer manager for C: the prototypes of include/heathcinder.h, in its order. A slice is a pointer and a length there, and seven words are
-// a `struct hc_wall_time`. Each call gives its status as the result; an answer goes through the last pointer, set clock's two through the last
-// two, and is 0 on every refusal. The contracts are the calls' own equations with the model's `outcome` and `movement`.
+// a `struct hc_wall_time`. Each call gives its status as the result; an answer goes through the last pointer, set clock's two and leap's two
+// through the last two, and is 0 on every refusal. The contracts are the calls' own equations with the model's `outcome` and `movement`.
 ghost use mathlib.Core.Path.{_≡_};
 ghost use mathlib.Core.List.{[], _∷_};
 ghost use Rattle.model.specs.Calls as call;
@@ -228,6 +228,23 @@ pub extern "C" fn hc_serve(table: &mut [u32], served: &mut [u32], count: &mut u3
     ensures { λ r. ⌜ outcomeOf r (now (count .exit) ∷ []) (now (table .exit)) (now (served .exit)) ≡ outcome (now (table .entry)) (call.serve (now (served .entry))) ⌝ }
 {
     let answer = server::serve(table, served);
+    *count = number_in(answer);
+    status_of(answer)
+}
+
+#[no_mangle]
+pub extern "C" fn hc_leap(
+    table: &mut [u32],
+    ticks: u32,
+    fired: &mut [u32],
+    done: &mut u32,
+    count: &mut u32,
+) -> u32
+    ensures { λ r. ⌜ outcomeOf r (now (count .exit) ∷ now (done .exit) ∷ []) (now (table .exit)) (now (fired .exit)) ≡ outcome (now (table .entry)) (call.leap ticks (now (fired .entry))) ⌝ }
+{
+    let progress = clock::leap(table, ticks, fired);
+    let answer = progress.answer;
+    *done = progress.done;
     *count = number_in(answer);
     status_of(answer)
 }

@@ -13,10 +13,10 @@ use Rattle.calendar.specs.declared.WallTime.{WallTime}
 use Rattle.calendar.specs.Calendar.{allOf, valid, secondsOf}
 use Rattle.model.specs.Lists.{All}
 use Rattle.model.specs.Status.{NotSound, numberOf, Refusal, when, firstOf}
-use Rattle.model.specs.Calls.{Call, layOut, create, ident, cancel, delete, fireAfter, fireWhen, fireEvery, reset, ticksLeft, tick, setClock, getClock, nextDue, initiateServer, serverFireAfter, serverFireWhen, serve}
+use Rattle.model.specs.Calls.{Call, layOut, create, ident, cancel, delete, fireAfter, fireWhen, fireEvery, reset, ticksLeft, tick, setClock, getClock, nextDue, initiateServer, serverFireAfter, serverFireWhen, serve, leap}
 use Rattle.model.specs.Kinds.{linked, lastByTicks}
 use Rattle.model.specs.State.{State, slotAt, idBase, indexOf, names}
-use Rattle.model.specs.Directives.{lowestFree, lowestNamed, isShort, limits, firstTests, refusals}
+use Rattle.model.specs.Directives.{lowestFree, lowestNamed, isShort, limits, firstTests, refusals, mostLeap}
 use Rattle.model.specs.Sound.{sound}
 use Rattle.model.proofs.StatusLaws.{not-zero}
 use Rattle.model.proofs.ListLaws.{cases, clash, both, and-both, all-at, all-true}
@@ -127,6 +127,7 @@ Accepted w s initiateServer = s .server ≡ false
 Accepted w s (serverFireAfter id n r u) = (s .server ≡ true) × StartsByTicks s id n r
 Accepted w s (serverFireWhen id d r u) = (s .server ≡ true) × StartsByDate s id d r
 Accepted w s (serve list) = (s .server ≡ true) × (3 ≤ length list)
+Accepted w s (leap k list) = LongEnough s list × (k ≤ mostLeap)
 
 positive : (n : ℕ) → eqb n 0 ≡ false → 0 < n
 positive n e = pos-of-ne-zero (eqb-false n 0 e)
@@ -192,6 +193,7 @@ module _ (words : List ℕ) (s : State) where
   accepted-facts (serverFireWhen id w r u) e =
       let p = not-refused (serverFireWhen id w r u) e in (not-false (s .server) (p 1), by-date id w r (p 2) (p 3) (p 4) (p 5))
   accepted-facts (serve list) e = let p = not-refused (serve list) e in (not-false (s .server) (p 2), ltb-false (length list) 3 (p 1))
+  accepted-facts (leap k list) e = let p = not-refused (leap k list) e in (long-enough list (p 1), ltb-false mostLeap k (p 2))
 
   -- ---- and the other way: on a sound table a call that passes these is accepted, so that no rule is given where none of them says so
 
@@ -253,6 +255,7 @@ module _ (words : List ℕ) (s : State) where
     ),
   )
   no-rule (serve list) ok h = (ap not ok, (le-ltb (length list) 3 (h .1), (ap not (h .0), tt)))
+  no-rule (leap k list) ok h = (ap not ok, (le-ltb (length list) (3 * length (s .slots)) (h .0), (le-ltb mostLeap k (h .1), tt)))
 
   pub facts-accepted : (c : Call) → sound words ≡ true → Accepted words s c → firstOf (refusals words s c) ≡ 0
   facts-accepted c ok h = none-given (refusals words s c) (no-rule c ok h)

@@ -12,7 +12,7 @@ use Rattle.calendar.specs.declared.WallTime.{WallTime}
 use Rattle.calendar.specs.Calendar.{secondsOf}
 use Rattle.calendar.proofs.Theorems.{seconds-in-range}
 use Rattle.model.specs.Status.{firstOf}
-use Rattle.model.specs.Calls.{Call, layOut, create, ident, cancel, delete, fireAfter, fireWhen, fireEvery, reset, ticksLeft, tick, setClock, getClock, nextDue, initiateServer, serverFireAfter, serverFireWhen, serve}
+use Rattle.model.specs.Calls.{Call, layOut, create, ident, cancel, delete, fireAfter, fireWhen, fireEvery, reset, ticksLeft, tick, setClock, getClock, nextDue, initiateServer, serverFireAfter, serverFireWhen, serve, leap, isLeap}
 use Rattle.model.specs.Kinds.{Chain, ByTicks, ByDate, Queue, After, When, Every, ServerAfter, ServerWhen, kindAt, chainFor, forServer, lastMode}
 use Rattle.model.specs.State.{Link, State, free, slotAt, indexOf, Fired, listed}
 use Rattle.model.specs.Directives.{refusals, lowestFree, neverStarted, idled, effect, clockAt, movedBy}
@@ -45,9 +45,9 @@ module _ (s : State) (h : List Event) (v : Agrees s h) (f : WellFormed s) (words
         subst (λ (k : ℕ). lastStart k h ≡ some (startOf k o (x .interval) (x .routine) (x .userData))) (sym (p .0 .is)) (m .1),
       )
 
-  pub agrees-step : (c : Call) → firstOf (refusals words s c) ≡ 0 → Agrees (effect words s c .state) (eventOf h c ∷ h)
-  agrees-step (layOut n t) e = on-lay-out s h v n t
-  agrees-step (create name) e =
+  pub agrees-step : (c : Call) → firstOf (refusals words s c) ≡ 0 → isLeap c ≡ false → Agrees (effect words s c .state) (eventOf h c ∷ h)
+  agrees-step (layOut n t) e one = on-lay-out s h v n t
+  agrees-step (create name) e one =
       let i = lowestFree s in
       let p = accepted-facts words s (create name) e in
       let low = found (λ x. eqb (x .kind) 0) (s .slots) (p .1) in
@@ -59,49 +59,50 @@ module _ (s : State) (h : List Event) (v : Agrees s h) (f : WellFormed s) (words
         routine = sym (blank .1) j;
         userData = sym (blank .2) j;
       }) refl
-  agrees-step (ident name) e = on-nothing s h v
-  agrees-step (cancel id) e =
+  agrees-step (ident name) e one = on-nothing s h v
+  agrees-step (cancel id) e one =
       let p = accepted-facts words s (cancel id) e .0 in
       let x = slotAt (s .slots) (indexOf id) in
       on-stop s h v id (indexOf id) (p .is) (p .low) (p .high) (idled x) (subst (Remembers h (indexOf id)) (sym (memo-idled x)) (v .memory (indexOf id)))
-  agrees-step (delete id) e =
+  agrees-step (delete id) e one =
       let p = accepted-facts words s (delete id) e in on-delete s h v id (indexOf id) (p .is) (p .low) (p .high)
-  agrees-step (fireAfter id n r u) e =
+  agrees-step (fireAfter id n r u) e one =
       let p = accepted-facts words s (fireAfter id n r u) e in
       let q = p .names-one in
       on-start s h v id (indexOf id) (q .is) (q .low) (q .high) After n r u (p .ticks)
-  agrees-step (fireWhen id w r u) e =
+  agrees-step (fireWhen id w r u) e one =
       let p = accepted-facts words s (fireWhen id w r u) e in
       let q = p .names-one in
       on-start s h v id (indexOf id) (q .is) (q .low) (q .high) When (secondsOf w) r u tt
-  agrees-step (fireEvery id n r u) e =
+  agrees-step (fireEvery id n r u) e one =
       let p = accepted-facts words s (fireEvery id n r u) e in
       let q = p .names-one in
       on-start s h v id (indexOf id) (q .is) (q .low) (q .high) Every n r u (p .ticks)
-  agrees-step (reset id) e =
+  agrees-step (reset id) e one =
       let p = accepted-facts words s (reset id) e in
       let i = indexOf id in
       let x = slotAt (s .slots) i in
       let last = reset-last id e in
       subst (λ (q : Option Start). Agrees (effect words s (reset id) .state) (changes id q ∷ h)) (sym (last .2))
       (on-start s h v id i (p .0 .is) (p .0 .low) (p .0 .high) (lastMode (x .kind)) (x .interval) (x .routine) (x .userData) (rw (last .0) (last .1)))
-  agrees-step (ticksLeft id) e = on-nothing s h v
-  agrees-step (tick list) e = on-tick s h v f
-  agrees-step (setClock w list) e =
+  agrees-step (ticksLeft id) e one = on-nothing s h v
+  agrees-step (tick list) e one = on-tick s h v f
+  agrees-step (setClock w list) e one =
       let p = accepted-facts words s (setClock w list) e in
       on-set-clock s h v f (secondsOf w) (seconds-in-range w (p .1)) (w .ticks) (p .2)
-  agrees-step getClock e = on-nothing s h v
-  agrees-step nextDue e = on-nothing s h v
-  agrees-step initiateServer e = on-initiate s h v
-  agrees-step (serverFireAfter id n r u) e =
+  agrees-step getClock e one = on-nothing s h v
+  agrees-step nextDue e one = on-nothing s h v
+  agrees-step initiateServer e one = on-initiate s h v
+  agrees-step (serverFireAfter id n r u) e one =
       let p = accepted-facts words s (serverFireAfter id n r u) e .1 in
       let q = p .names-one in
       on-start s h v id (indexOf id) (q .is) (q .low) (q .high) ServerAfter n r u (p .ticks)
-  agrees-step (serverFireWhen id w r u) e =
+  agrees-step (serverFireWhen id w r u) e one =
       let p = accepted-facts words s (serverFireWhen id w r u) e .1 in
       let q = p .names-one in
       on-start s h v id (indexOf id) (q .is) (q .low) (q .high) ServerWhen (secondsOf w) r u tt
-  agrees-step (serve list) e = on-serve s h v
+  agrees-step (serve list) e one = on-serve s h v
+  agrees-step (leap k list) e one = clash one
 
 -- ---- what is listed
 
@@ -128,38 +129,39 @@ module _ (s : State) (h : List Event) (v : Agrees s h) (f : WellFormed s) (words
   shown-front (w ∷ ws) [] e = absurd (cons≢nil e)
   shown-front (w ∷ ws) (x ∷ q) e = ap {B = List Fired} (λ (y : Waiting). y .shows ∷ []) (head-eq-of-cons-eq e)
 
-  pub lists-due : (c : Call) → firstOf (refusals words s c) ≡ 0 → map (listed (s .slots)) (effect words s c .fired) ≡ listing h (eventOf h c) queue
-  lists-due (layOut n t) e = lists-none (eventOf h (layOut n t)) refl refl
-  lists-due (create name) e = lists-none nothing refl refl
-  lists-due (ident name) e = lists-none nothing refl refl
-  lists-due (cancel id) e = lists-none (eventOf h (cancel id)) refl refl
-  lists-due (delete id) e = lists-none (eventOf h (delete id)) refl refl
-  lists-due (fireAfter id n r u) e = lists-none (eventOf h (fireAfter id n r u)) refl refl
-  lists-due (fireWhen id w r u) e = lists-none (eventOf h (fireWhen id w r u)) refl refl
-  lists-due (fireEvery id n r u) e = lists-none (eventOf h (fireEvery id n r u)) refl refl
-  lists-due (reset id) e = lists-none (eventOf h (reset id)) refl refl
-  lists-due (ticksLeft id) e = lists-none nothing refl refl
-  lists-due (tick list) e = tick-lists s h v f ∙ sym (append-nil (map entry (firingIn ByTicks h oneTick ++ firingIn ByDate h oneTick)))
-  lists-due (setClock w list) e =
+  pub lists-due : (c : Call) → firstOf (refusals words s c) ≡ 0 → isLeap c ≡ false → map (listed (s .slots)) (effect words s c .fired) ≡ listing h (eventOf h c) queue
+  lists-due (layOut n t) e one = lists-none (eventOf h (layOut n t)) refl refl
+  lists-due (create name) e one = lists-none nothing refl refl
+  lists-due (ident name) e one = lists-none nothing refl refl
+  lists-due (cancel id) e one = lists-none (eventOf h (cancel id)) refl refl
+  lists-due (delete id) e one = lists-none (eventOf h (delete id)) refl refl
+  lists-due (fireAfter id n r u) e one = lists-none (eventOf h (fireAfter id n r u)) refl refl
+  lists-due (fireWhen id w r u) e one = lists-none (eventOf h (fireWhen id w r u)) refl refl
+  lists-due (fireEvery id n r u) e one = lists-none (eventOf h (fireEvery id n r u)) refl refl
+  lists-due (reset id) e one = lists-none (eventOf h (reset id)) refl refl
+  lists-due (ticksLeft id) e one = lists-none nothing refl refl
+  lists-due (tick list) e one = tick-lists s h v f ∙ sym (append-nil (map entry (firingIn ByTicks h oneTick ++ firingIn ByDate h oneTick)))
+  lists-due (setClock w list) e one =
       let p = accepted-facts words s (setClock w list) e in
       let moved = clockSetTo (secondsOf w) (w .ticks) in
       set-clock-lists s h v f (secondsOf w) (seconds-in-range w (p .1)) (w .ticks) (p .2)
       ∙ sym (append-nil (map entry (firingIn ByTicks h moved ++ firingIn ByDate h moved)))
-  lists-due getClock e = lists-none nothing refl refl
-  lists-due nextDue e = lists-none nothing refl refl
-  lists-due initiateServer e = lists-none initiates refl refl
-  lists-due (serverFireAfter id n r u) e = lists-none (eventOf h (serverFireAfter id n r u)) refl refl
-  lists-due (serverFireWhen id w r u) e = lists-none (eventOf h (serverFireWhen id w r u)) refl refl
-  lists-due (serve list) e =
+  lists-due getClock e one = lists-none nothing refl refl
+  lists-due nextDue e one = lists-none nothing refl refl
+  lists-due initiateServer e one = lists-none initiates refl refl
+  lists-due (serverFireAfter id n r u) e one = lists-none (eventOf h (serverFireAfter id n r u)) refl refl
+  lists-due (serverFireWhen id w r u) e one = lists-none (eventOf h (serverFireWhen id w r u)) refl refl
+  lists-due (serve list) e one =
       shown-front (s .queue) queue (v .chain Queue .2)
       ∙ ap (λ (l : List Placed). map entry l ++ map entryOf (take 1 queue)) (sym (none-fire h servesFront refl))
+  lists-due (leap k list) e one = clash one
 
   -- a tick and a set clock list those that fire, a serve the front of the queue
-  pub many-fire : (c : Call) → firstOf (refusals words s c) ≡ 0 → movesClock (eventOf h c) ≡ true
+  pub many-fire : (c : Call) → firstOf (refusals words s c) ≡ 0 → isLeap c ≡ false → movesClock (eventOf h c) ≡ true
       → length (effect words s c .fired) ≡ length (firingIn ByTicks h (eventOf h c) ++ firingIn ByDate h (eventOf h c))
-  many-fire c e moving =
+  many-fire c e one moving =
       let all-firing = firingIn ByTicks h (eventOf h c) ++ firingIn ByDate h (eventOf h c) in
-      sym (length-map (effect words s c .fired) (listed (s .slots))) ∙ ap length (lists-due c e)
+      sym (length-map (effect words s c .fired) (listed (s .slots))) ∙ ap length (lists-due c e one)
       ∙ ap (λ (n : ℕ). length (map entry all-firing ++ map entryOf (take n queue))) (none-handed (eventOf h c) moving)
       ∙ ap length (append-nil (map entry all-firing)) ∙ length-map all-firing entry
     where
@@ -173,10 +175,11 @@ module _ (s : State) (h : List Event) (v : Agrees s h) (f : WellFormed s) (words
       none-handed servesFront z = clash (sym z)
       none-handed nothing z = refl
 
-  pub many-served : (c : Call) → firstOf (refusals words s c) ≡ 0 → servesIn (eventOf h c) ≡ 1 → length (effect words s c .fired) ≡ length (take 1 queue)
-  many-served c e one =
-      sym (length-map (effect words s c .fired) (listed (s .slots))) ∙ ap length (lists-due c e)
-      ∙ ap₂ (λ (l : List Placed) (n : ℕ). length (map entry l ++ map entryOf (take n queue))) (none-fire h (eventOf h c) (still (eventOf h c) one)) one
+  pub many-served : (c : Call) → firstOf (refusals words s c) ≡ 0 → isLeap c ≡ false → servesIn (eventOf h c) ≡ 1
+      → length (effect words s c .fired) ≡ length (take 1 queue)
+  many-served c e one front =
+      sym (length-map (effect words s c .fired) (listed (s .slots))) ∙ ap length (lists-due c e one)
+      ∙ ap₂ (λ (l : List Placed) (n : ℕ). length (map entry l ++ map entryOf (take n queue))) (none-fire h (eventOf h c) (still (eventOf h c) front)) front
       ∙ length-map (take 1 queue) entryOf
     where
       still : (e : Event) → servesIn e ≡ 1 → movesClock e ≡ false
@@ -189,14 +192,14 @@ module _ (s : State) (h : List Event) (v : Agrees s h) (f : WellFormed s) (words
       still servesFront z = refl
       still nothing z = refl
 
-  pub few-fire : (c : Call) → firstOf (refusals words s c) ≡ 0
+  pub few-fire : (c : Call) → firstOf (refusals words s c) ≡ 0 → isLeap c ≡ false
       → length (firingIn ByTicks h (eventOf h c) ++ firingIn ByDate h (eventOf h c)) ≤ length (effect words s c .fired)
-  few-fire c e =
+  few-fire c e one =
       let all-firing = firingIn ByTicks h (eventOf h c) ++ firingIn ByDate h (eventOf h c) in
       omega (
         arith,
         length-map (effect words s c .fired) (listed (s .slots)),
-        ap length (lists-due c e),
+        ap length (lists-due c e one),
         length-append (map entry all-firing) (map entryOf (take (servesIn (eventOf h c)) queue)),
         length-map all-firing entry,
       )
@@ -231,3 +234,4 @@ counts words s h initiateServer e = clash (sym e)
 counts words s h (serverFireAfter id n r u) e = clash (sym e)
 counts words s h (serverFireWhen id w r u) e = clash (sym e)
 counts words s h (serve list) e = refl
+counts words s h (leap k list) e = clash (sym e)

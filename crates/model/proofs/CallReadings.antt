@@ -11,17 +11,18 @@ use lib.Dec.{eqb}
 use borrow.Author.Tests.{eq-eqb}
 use Rattle.calendar.specs.Calendar.{lastSecond}
 use Rattle.model.specs.Lists.{any, count, All}
-use Rattle.model.specs.Calls.{Call, layOut, create, ident, cancel, delete, fireAfter, fireWhen, fireEvery, reset, ticksLeft, tick, setClock, getClock, nextDue, initiateServer, serverFireAfter, serverFireWhen, serve}
+use Rattle.model.specs.Calls.{Call, layOut, create, ident, cancel, delete, fireAfter, fireWhen, fireEvery, reset, ticksLeft, tick, setClock, getClock, nextDue, initiateServer, serverFireAfter, serverFireWhen, serve, leap, isLeap}
 use Rattle.model.specs.Kinds.{ServerAfter}
 use Rattle.model.specs.Outcome.{outcome}
 use Rattle.model.specs.History.{Start, startOf, Event, laidOutFor, changes, deletes, oneTick, clockSetTo, initiates, servesFront, nothing, eventOf, eventsOn, isTick, ticks, perSecond, clockAfter, ends, isQueued, Queues, IsQueue}
-use Rattle.model.specs.Demand.{after, acceptedIn, eventsAfter}
+use Rattle.model.specs.Demand.{after, singly, acceptedIn, eventsAfter}
 use Rattle.model.proofs.ListLaws.{cases, clash, all, keep-all, count-append}
+use Rattle.model.proofs.SingleCalls.{alone, accepted-append, events-append}
 use Rattle.model.proofs.Readings.{Lists, tick-lists, multiple-lists, startAt, queued-at-nth-tick, goes-to-back}
 
 -- ---- the words of a list of accepted calls
 
--- a tick; a cancel, reset, new start or delete of the timer, or a lay out
+-- a tick (a leap stands there as its ticks); a cancel, reset, new start or delete of the timer, or a lay out
 abbrev pub isTickCall : Call → Bool
 isTickCall (layOut n t) = false
 isTickCall (create name) = false
@@ -41,6 +42,7 @@ isTickCall initiateServer = false
 isTickCall (serverFireAfter i n r u) = false
 isTickCall (serverFireWhen i w r u) = false
 isTickCall (serve list) = false
+isTickCall (leap k list) = false
 
 abbrev pub endsTimer : ℕ → Call → Bool
 endsTimer id (layOut n t) = true
@@ -61,6 +63,7 @@ endsTimer id initiateServer = false
 endsTimer id (serverFireAfter i n r u) = eqb i id
 endsTimer id (serverFireWhen i w r u) = eqb i id
 endsTimer id (serve list) = false
+endsTimer id (leap k list) = false
 
 tick-is : (h : List Event) (c : Call) → isTick (eventOf h c) ≡ isTickCall c
 tick-is h (layOut n t) = refl
@@ -81,6 +84,7 @@ tick-is h initiateServer = refl
 tick-is h (serverFireAfter i n r u) = refl
 tick-is h (serverFireWhen i w r u) = refl
 tick-is h (serve list) = refl
+tick-is h (leap k list) = refl
 
 ends-is : (id : ℕ) (h : List Event) (c : Call) → ends id (eventOf h c) ≡ endsTimer id c
 ends-is id h (layOut n t) = refl
@@ -101,13 +105,14 @@ ends-is id h initiateServer = refl
 ends-is id h (serverFireAfter i n r u) = refl
 ends-is id h (serverFireWhen i w r u) = refl
 ends-is id h (serve list) = refl
+ends-is id h (leap k list) = refl
 
 -- the events of more calls, before which there were the events h
-record More (id : ℕ) (h : List Event) (cs : List Call) : Type 0 where
-  events : List Event
-  are : eventsOn h cs ≡ events ++ h
-  as-many : ticks events ≡ count isTickCall cs
-  as-ended : any (ends id) events ≡ any (endsTimer id) cs
+pub record More (id : ℕ) (h : List Event) (cs : List Call) : Type 0 where
+  pub events : List Event
+  pub are : eventsOn h cs ≡ events ++ h
+  pub as-many : ticks events ≡ count isTickCall cs
+  pub as-ended : any (ends id) events ≡ any (endsTimer id) cs
 
 any-append : (p : Event → Bool) (xs ys : List Event) → any p (xs ++ ys) ≡ (any p xs || any p ys)
 any-append p [] ys = refl
@@ -119,7 +124,7 @@ or-comm true false = refl
 or-comm false true = refl
 or-comm false false = refl
 
-more : (id : ℕ) (h : List Event) (cs : List Call) → More id h cs
+pub more : (id : ℕ) (h : List Event) (cs : List Call) → More id h cs
 more id h [] = record { events = []; are = refl; as-many = refl; as-ended = refl }
 more id h (c ∷ cs) =
     let e = eventOf h c in
@@ -135,20 +140,6 @@ more id h (c ∷ cs) =
     one : (a b : Bool) → a ≡ b → (n m : ℕ) → n ≡ m → n + cond a 1 0 ≡ cond b (suc m) m
     one a b e n m is = rw e (cases b (λ f. rw f (omega arith)) (λ f. rw f (omega arith)))
 
-after-append : (t : List ℕ) (xs ys : List Call) → after t (xs ++ ys) ≡ after (after t xs) ys
-after-append t [] ys = refl
-after-append t (c ∷ xs) ys = after-append (outcome t c .table) xs ys
-
-accepted-append : (t : List ℕ) (xs ys : List Call) → acceptedIn t (xs ++ ys) ≡ acceptedIn t xs ++ acceptedIn (after t xs) ys
-accepted-append t [] ys = refl
-accepted-append t (c ∷ xs) ys =
-    let rest = accepted-append (outcome t c .table) xs ys in
-    cases (eqb (outcome t c .status) 0) (λ e. rw e (ap {B = List Call} (λ l. c ∷ l) rest)) (λ e. rw e rest)
-
-events-append : (h : List Event) (xs ys : List Call) → eventsOn h (xs ++ ys) ≡ eventsOn (eventsOn h xs) ys
-events-append h [] ys = refl
-events-append h (c ∷ xs) ys = events-append (eventOf h c ∷ h) xs ys
-
 -- ---- the nth tick
 
 -- The calls before a start, the start, the calls after it of which so many are accepted ticks and none that is accepted ends the timer, and then an
@@ -163,14 +154,15 @@ module _ (w : List ℕ) (n t : ℕ) (before : List Call) (start : Call) (later :
   abbrev pub whole : List Call
   whole = before ++ (start ∷ later)
 
-  events-since : outcome atStart start .status ≡ 0
+  pub events-since : isLeap start ≡ false → outcome atStart start .status ≡ 0
       → eventsAfter w (layOut n t ∷ whole)
       ≡ eventsOn (eventOf (eventsAfter w (layOut n t ∷ before)) start ∷ eventsAfter w (layOut n t ∷ before)) since
-  events-since started =
+  events-since one started =
       ap (eventsOn []) (accepted-append w (layOut n t ∷ before) (start ∷ later))
       ∙ events-append [] (acceptedIn w (layOut n t ∷ before)) (acceptedIn atStart (start ∷ later))
-      ∙ ap (λ (b : Bool). eventsOn (eventsAfter w (layOut n t ∷ before)) (cond b (start ∷ since) since))
+      ∙ ap (λ (b : Bool). eventsOn (eventsAfter w (layOut n t ∷ before)) (cond b (singly atStart start ++ since) since))
       (eq-eqb (outcome atStart start .status) 0 started)
+      ∙ ap (λ (l : List Call). eventsOn (eventsAfter w (layOut n t ∷ before)) (l ++ since)) (alone atStart start one)
 
 module _ (w : List ℕ) (n t : ℕ) (ok : outcome w (layOut n t) .status ≡ 0) (before later : List Call) (id k r u : ℕ) (list : List ℕ) where
   -- A timer started for n ticks fires exactly at the nth accepted tick after that start, whatever the clock did.
@@ -184,7 +176,7 @@ module _ (w : List ℕ) (n t : ℕ) (ok : outcome w (layOut n t) .status ≡ 0) 
       let es = eventsAfter w (layOut n t ∷ before) in
       let m = more id (eventOf es start ∷ es) (since w n t before start later) in
       tick-lists w n t ok (whole w n t before start later) list es (m .events) id id k r u ticked
-      (events-since w n t before start later started ∙ m .are) (m .as-ended ∙ quiet) (omega (arith, nth, m .as-many))
+      (events-since w n t before start later refl started ∙ m .are) (m .as-ended ∙ quiet) (omega (arith, nth, m .as-many))
 
   -- A timer started for every n ticks fires at each accepted tick with which those after that start are a multiple of n.
   pub multiple-tick-lists : (m : ℕ) → let start = fireEvery id k r u in
@@ -197,7 +189,7 @@ module _ (w : List ℕ) (n t : ℕ) (ok : outcome w (layOut n t) .status ≡ 0) 
       let es = eventsAfter w (layOut n t ∷ before) in
       let m = more id (eventOf es start ∷ es) (since w n t before start later) in
       multiple-lists w n t ok (whole w n t before start later) list es (m .events) id id k r u times ticked
-      (events-since w n t before start later started ∙ m .are) (m .as-ended ∙ quiet) (ap suc (m .as-many) ∙ multiple)
+      (events-since w n t before start later refl started ∙ m .are) (m .as-ended ∙ quiet) (ap suc (m .as-many) ∙ multiple)
 
 -- ---- the server
 
@@ -214,7 +206,7 @@ module _ (w : List ℕ) (n t : ℕ) (ok : outcome w (layOut n t) .status ≡ 0) 
       let before-it = eventsAfter w (layOut n t ∷ before) in
       let s = startOf id ServerAfter k r u in
       let m = more id (eventOf before-it start ∷ before-it) (since w n t before start later) in
-      let are = events-since w n t before start later started ∙ m .are in
+      let are = events-since w n t before start later refl started ∙ m .are in
       let now : isQueued oneTick (startAt before-it id s (m .events)) ≡ true =
       queued-at-nth-tick before-it (m .events) id id k r u (omega arith) oneTick
       ∙ ap₂ (λ (a b : Bool). not a && b) (m .as-ended ∙ quiet) (eq-eqb (suc (ticks (m .events))) k (omega (arith, nth, m .as-many))) in (

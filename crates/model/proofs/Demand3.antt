@@ -1,26 +1,26 @@
 -- Demand 3, for every slice, every accepted lay out on it, and every list of calls. By induction on the list: the table stays sound, and
 -- the state that it holds agrees with the events of the accepted calls. Assumes nothing.
 use mathlib.Core.Path.{_≡_, refl, sym, ap, ap₂, _∙_, subst}
-use Prim.Native.Nat.{ℕ, suc, _+_, _*_}
+use Prim.Native.Nat.{ℕ, zero, suc, _+_, _*_, _≤_}
 use native.Mathlib.Omega.{arith}
 use mathlib.Core.Bool.{Bool, true, false, cond, _&&_, _||_}
 use mathlib.Core.Option.{Option, some}
 use mathlib.Core.List.{List, [], _∷_, _++_, map, map-map, reverse}
-use lib.ListN.{length, take}
-use lib.Dec.{ltb, eqb}
+use lib.ListN.{length, take, replicate}
+use lib.Dec.{ltb, eqb, leb}
 use borrow.Author.Tests.{eqb-true, eqb-false, eq-eqb}
 use Rattle.calendar.specs.declared.WallTime.{WallTime}
 use Rattle.calendar.specs.Calendar.{valid}
 use Rattle.model.specs.Lists.{least, keep, any, InOrder}
-use Rattle.model.specs.Calls.{Call, layOut, reset, ticksLeft, setClock, nextDue, serve, lentTo}
+use Rattle.model.specs.Calls.{Call, layOut, reset, ticksLeft, setClock, nextDue, serve, leap, lentTo, tick, isLeap}
 use Rattle.model.specs.Kinds.{Chain, ByTicks, ByDate, Queue, chainFor}
 use Rattle.model.specs.State.{State, waitAt, indexOf, names}
-use Rattle.model.specs.Directives.{firstWait, laidOut, effect}
+use Rattle.model.specs.Directives.{firstWait, laidOut, effect, mostLeap}
 use Rattle.model.specs.Words.{first, along, links, read, slotCount, ticksPerSecond, previousOf}
 use Rattle.model.specs.Sound.{sound}
 use Rattle.model.specs.Outcome.{Outcome, statusOn, outcome, movement}
-use Rattle.model.specs.History.{Start, Event, laidOutFor, changes, lastStart, eventOf, eventsOn, clockAfter, movesClock, Placed, starts, ends, fires, inChain, ticksLeftOrDate, waiting, entryOf, entry, servesIn, IsQueue, serves, aheadAfter, takenOff}
-use Rattle.model.specs.Demand.{after, acceptedIn, shown, Shows, Standing, Begins, Lists, Answers, HandsOut, eventsAfter, Demand3}
+use Rattle.model.specs.History.{Start, Event, laidOutFor, changes, oneTick, lastStart, eventOf, eventsOn, clockAfter, movesClock, Placed, starts, ends, fires, inChain, ticksLeftOrDate, waiting, entryOf, entry, servesIn, IsQueue, serves, aheadAfter, takenOff}
+use Rattle.model.specs.Demand.{after, ticksDone, singly, acceptedIn, shown, Shows, Standing, Begins, Lists, Answers, HandsOut, eventsAfter, Demand3}
 use Rattle.model.proofs.ListLaws.{cases, or-left, or-right}
 use Rattle.model.proofs.Order.{order, order-in-order}
 use Rattle.model.proofs.Chains.{once-all}
@@ -31,13 +31,15 @@ use Rattle.model.proofs.HistoryLaws.{waitingIn, chainFrom, firingIn, sh
 use Rattle.model.proofs.QueueLaws.{one-queue, place-after}
 use Rattle.model.proofs.Simulation.{Agrees, agrees-laid}
 use Rattle.model.proofs.Agreement.{reset-last, agrees-step, lists-due, many-fire, many-served, few-fire, moves-by, none-fires, counts}
-use Rattle.model.proofs.OutcomeLaws.{status-is, outcome-accepted, outcome-refused, outcome-status}
+use Rattle.model.proofs.OutcomeLaws.{each-leap, status-is, outcome-accepted, outcome-refused, outcome-status}
 use Rattle.model.proofs.ClockLaws.{apart}
+use Rattle.model.proofs.SingleCalls.{alone, events-append, events-ticks}
 use Rattle.model.proofs.ClockReadings.{set-clock-status, refused-moves-none, get-clock-reads}
 use Rattle.model.proofs.CallTables.{laid-table, laid-sound, laid-read, effect-sound, table-left, state-left}
 use Rattle.model.proofs.Lasting.{none-laid, cancels-on, cancelled-on, lasts-on, anew-on}
 use Rattle.model.proofs.ListWords.{list-begins, table-size, words-beyond}
 use Rattle.model.proofs.NextDue.{firstBy, first-order, first-map, first-read, next-due-accepted}
+use Rattle.model.proofs.LeapWords.{leap-status, Ready, tick-status, next-ready, leaps, leap-ready}
 
 -- the table t is sound and its state agrees with the events h
 record SoundAndAgreeing (t : List ℕ) (h : List Event) : Type 0 where
@@ -78,15 +80,15 @@ module _ (t : List ℕ) (h : List Event) (g : SoundAndAgreeing t h) where
 -- ---- one call more
 
 module _ (t : List ℕ) (h : List Event) (g : SoundAndAgreeing t h) (c : Call) where
-  kept-by-call : statusOn t c ≡ 0 → SoundAndAgreeing (outcome t c .table) (eventOf h c ∷ h)
-  kept-by-call e = record {
+  kept-by-call : statusOn t c ≡ 0 → isLeap c ≡ false → SoundAndAgreeing (outcome t c .table) (eventOf h c ∷ h)
+  kept-by-call e one = record {
     is-sound = ap sound (table-left t (g .is-sound) c e) ∙ effect-sound t (g .is-sound) c e;
     agrees = rw (state-left t (g .is-sound) c e)
-        (agrees-step (read t) h (g .agrees) (sound-well-formed t (g .is-sound)) t c (sym (status-is t c) ∙ e));
+        (agrees-step (read t) h (g .agrees) (sound-well-formed t (g .is-sound)) t c (sym (status-is t c) ∙ e) one);
   }
 
-  lists-now : statusOn t c ≡ 0 → Lists t h c (eventOf h c)
-  lists-now z =
+  lists-now : statusOn t c ≡ 0 → isLeap c ≡ false → Lists t h c (eventOf h c)
+  lists-now z one =
       let st = sym (status-is t c) ∙ z in
       let f = sound-well-formed t (g .is-sound) in
       let e = eventOf h c in
@@ -103,16 +105,40 @@ module _ (t : List ℕ) (h : List Event) (g : SoundAndAgreeing t h) (c : Call) w
         dated-order = order-in-order ticksLeftOrDate (keep (inChain ByDate) (keep (fires e) (starts h)));
         queue = q .0;
         is-queue = q .1;
-        entries = subst (Begins (outcome t c .list) (lentTo c)) (lists-due (read t) h (g .agrees) f t c st) (list-begins t (g .is-sound) c z);
-        counted = λ moving. answer (length (l ++ m)) (or-left (movesClock e) (eqb (servesIn e) 1) moving) (many-fire (read t) h (g .agrees) f t c st moving);
+        entries = subst (Begins (outcome t c .list) (lentTo c)) (lists-due (read t) h (g .agrees) f t c st one) (list-begins t (g .is-sound) c z);
+        counted = λ moving. answer (length (l ++ m)) (or-left (movesClock e) (eqb (servesIn e) 1) moving) (many-fire (read t) h (g .agrees) f t c st one moving);
         served = λ list is.
-            let one : servesIn e ≡ 1 = ap (λ (d : Call). servesIn (eventOf h d)) is in
-            answer (length (take 1 (q .0))) (or-right (movesClock e) (eqb (servesIn e) 1) (eq-eqb (servesIn e) 1 one))
-            (many-served (read t) h (g .agrees) f t c st one);
+            let front : servesIn e ≡ 1 = ap (λ (d : Call). servesIn (eventOf h d)) is in
+            answer (length (take 1 (q .0))) (or-right (movesClock e) (eqb (servesIn e) 1) (eq-eqb (servesIn e) 1 front))
+            (many-served (read t) h (g .agrees) f t c st one front);
         fires-none = λ still. none-fires (read t) h (g .agrees) f t e still;
-        few = omega (arith, few-fire (read t) h (g .agrees) f t c st, bound t (read t) f c, slots-length t);
+        few = omega (arith, few-fire (read t) h (g .agrees) f t c st one, bound t (read t) f c, slots-length t);
       }
 
+-- ---- single ticks
+
+module _ (list : List ℕ) where
+  ticks-run : (d : ℕ) (t : List ℕ) → Ready list t → (h : List Event) → SoundAndAgreeing t h
+      → SoundAndAgreeing (after t (replicate d (tick list))) (eventsOn h (replicate d (tick list)))
+  ticks-run zero t r h g = g
+  ticks-run (suc d) t r h g =
+      ticks-run d (outcome t (tick list) .table) (next-ready list t r) (oneTick ∷ h) (kept-by-call t h g (tick list) (tick-status list t r) refl)
+
+  still-ready : (m : ℕ) (t : List ℕ) → Ready list t → Ready list (after t (replicate m (tick list)))
+  still-ready zero t r = r
+  still-ready (suc m) t r = still-ready m (outcome t (tick list) .table) (next-ready list t r)
+
+  -- after m ticks, the next one lists what is due in it
+  each-lists : (m : ℕ) (t : List ℕ) → Ready list t → (h : List Event) → SoundAndAgreeing t h
+      → Lists (after t (replicate m (tick list))) (replicate m oneTick ++ h) (tick list) oneTick
+  each-lists m t r h g =
+      let u = after t (replicate m (tick list)) in
+      subst (λ (es : List Event). Lists u es (tick list) oneTick) (events-ticks list m h)
+      (lists-now u (eventsOn h (replicate m (tick list))) (ticks-run m t r h g) (tick list) (tick-status list u (still-ready m t r)) refl)
+
+-- ---- what is answered
+
+module _ (t : List ℕ) (h : List Event) (g : SoundAndAgreeing t h) (c : Call) where
   restarts-now : statusOn t c ≡ 0 → (id : ℕ) → c ≡ reset id
       → (s : Start) × (eventOf h c ≡ changes id (some s)) × (s .id ≡ id) × (chainFor (s .mode) ≡ ByTicks) × (lastStart id h ≡ some s)
   restarts-now e id is =
@@ -136,6 +162,15 @@ module _ (t : List ℕ) (h : List Event) (g : SoundAndAgreeing t h) (c : Call) w
       ap (statusOn t) is ∙ set-clock-status t w list
       ∙ ap (λ (b : Bool). cond b (cond (ltb (length list) (3 * slotCount t)) 101 (cond (valid w && ltb (w .ticks) (ticksPerSecond t)) 0 20)) 100) (g .is-sound)
 
+  takes-now : (k : ℕ) (list : List ℕ) → c ≡ leap k list
+      → statusOn t c ≡ cond (ltb (length list) (3 * slotCount t)) 101 (cond (leb k 1000000) 0 10)
+  takes-now k list is =
+      ap (statusOn t) is ∙ leap-status t k list
+      ∙ ap (λ (b : Bool). cond b (cond (ltb (length list) (3 * slotCount t)) 101 (cond (leb k 1000000) 0 10)) 100) (g .is-sound)
+
+  leap-facts : (k : ℕ) (list : List ℕ) → c ≡ leap k list → statusOn t c ≡ 0 → Ready list t × (k ≤ mostLeap)
+  leap-facts k list is e = leap-ready t (g .is-sound) k list (ap (statusOn t) (sym is) ∙ e)
+
   left-now : statusOn t c ≡ 0 → (id : ℕ) → c ≡ ticksLeft id → outcome t c .answer ≡ waitAt (indexOf id) (links ByTicks t) ∷ []
   left-now e id is =
       subst (λ (d : Call). statusOn t d ≡ 0 → outcome t d .answer ≡ waitAt (indexOf id) (links ByTicks t) ∷ []) (sym is)
@@ -157,10 +192,14 @@ module _ (t : List ℕ) (h : List Event) (g : SoundAndAgreeing t h) (c : Call) w
 
   answers-now : Answers t h c (eventOf h c)
   answers-now = record {
-    lists = λ e. lists-now (sym (outcome-status t c) ∙ e);
+    lists = λ one e. lists-now t h g c (sym (outcome-status t c) ∙ e) one;
+    leaps = λ k list is e. let r = leap-facts k list is (sym (outcome-status t c) ∙ e) in leaps list k (r .1) t (r .0);
+    each-tick = λ k list is e m p. each-lists list m t (leap-facts k list is (sym (outcome-status t c) ∙ e) .0) h g;
+    leap-takes = λ k list is. outcome-status t c ∙ takes-now k list is;
     lent-tick = λ list is. ap lentTo is;
     lent-set = λ w list is. ap lentTo is;
     lent-serve = λ list is. ap lentTo is;
+    lent-leap = λ k list is. ap lentTo is;
     cancels = λ id is. outcome-status t c ∙ cancels-on t (g .is-sound) id c is;
     cancelled = λ id is e. cancelled-on t (g .is-sound) id c is (sym (outcome-status t c) ∙ e);
     restarts = λ id is e. restarts-now (sym (outcome-status t c) ∙ e) id is;
@@ -183,6 +222,18 @@ module _ (t : List ℕ) (h : List Event) (g : SoundAndAgreeing t h) (c : Call) w
 
 -- ---- a list of calls
 
+-- the single calls that an accepted call is
+call-run : (t : List ℕ) (h : List Event) → SoundAndAgreeing t h → (c : Call) → statusOn t c ≡ 0
+    → SoundAndAgreeing (outcome t c .table) (eventsOn h (singly t c))
+call-run t h g = each-leap (λ c. statusOn t c ≡ 0 → SoundAndAgreeing (outcome t c .table) (eventsOn h (singly t c)))
+    (λ k list z.
+    let r = leap-ready t (g .is-sound) k list z in
+    let q = leaps list k (r .1) t (r .0) in
+    let many : ticksDone (outcome t (leap k list) .answer) ≡ q .done = ap (λ (x : List ℕ). ticksDone x) (q .answer) in
+    subst (λ (n : ℕ). SoundAndAgreeing (outcome t (leap k list) .table) (eventsOn h (replicate n (tick list)))) (sym many)
+    (subst (λ (u : List ℕ). SoundAndAgreeing u (eventsOn h (replicate (q .done) (tick list)))) (sym (q .table)) (ticks-run list (q .done) t (r .0) h g)))
+    (λ c one z. subst (λ (l : List Call). SoundAndAgreeing (outcome t c .table) (eventsOn h l)) (sym (alone t c one)) (kept-by-call t h g c z one))
+
 run : (xs : List Call) (t : List ℕ) (h : List Event) → SoundAndAgreeing t h → SoundAndAgreeing (after t xs) (eventsOn h (acceptedIn t xs))
 run [] t h g = g
 run (c ∷ xs) t h g =
@@ -190,7 +241,7 @@ run (c ∷ xs) t h g =
     cases (eqb (statusOn t c) 0)
     (λ e.
     let b : eqb (outcome t c .status) 0 ≡ true = ap (λ (n : ℕ). eqb n 0) (outcome-status t c) ∙ e in
-    rw b (run xs u (eventOf h c ∷ h) (kept-by-call t h g c (eqb-true (statusOn t c) 0 e))))
+    rw (b, events-append h (singly t c) (acceptedIn u xs)) (run xs u (eventsOn h (singly t c)) (call-run t h g c (eqb-true (statusOn t c) 0 e))))
     (λ e.
     let o : u ≡ t = ap (λ (x : Outcome). x .table) (outcome-refused t c (eqb-false (statusOn t c) 0 e)) in
     let b : eqb (outcome t c .status) 0 ≡ false = ap (λ (n : ℕ). eqb n 0) (outcome-status t c) ∙ e in
@@ -239,7 +290,7 @@ module _ (w : List ℕ) (n t : ℕ) (ok : outcome w (layOut n t) .status ≡ 0) 
   handed-out accepted =
       let h = eventsAfter w (layOut n t ∷ xs ++ ys) in
       let first = comes-first in
-      let a = answers-now u h (after-calls w n t ok (xs ++ ys)) (serve list) .lists accepted in
+      let a = answers-now u h (after-calls w n t ok (xs ++ ys)) (serve list) .lists refl accepted in
       let same : a .queue ≡ s ∷ first .0 = one-queue h (a .queue) (s ∷ first .0) (a .is-queue) (first .1) in (
         a .served list refl ∙ ap (λ (q : List Start). length (take 1 q) ∷ []) same,
         subst (Begins (outcome u (serve list) .list) list)

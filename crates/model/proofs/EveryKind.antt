@@ -10,7 +10,7 @@ use Rattle.calendar.specs.declared.WallTime.{WallTime}
 use Rattle.calendar.specs.Calendar.{monthsOf, years, valid, secondsOf, dateOf}
 use Rattle.model.specs.Lists.{keep, every}
 use Rattle.model.specs.Status.{when, firstOf, NotSound}
-use Rattle.model.specs.Calls.{Call, create, ident, cancel, delete, fireAfter, fireWhen, fireEvery, reset, ticksLeft, tick, setClock, getClock, nextDue, initiateServer, serverFireAfter, serverFireWhen, serve}
+use Rattle.model.specs.Calls.{Call, create, ident, cancel, delete, fireAfter, fireWhen, fireEvery, reset, ticksLeft, tick, setClock, getClock, nextDue, initiateServer, serverFireAfter, serverFireWhen, serve, leap}
 use Rattle.model.specs.State.{idBase}
 use Rattle.model.specs.Words.{kindOf, read}
 use Rattle.model.specs.Directives.{refusals}
@@ -102,11 +102,31 @@ idResults =
 abbrev list : ℕ → List ℕ
 list n = replicate n 99
 
+-- what a tick leaves: 10 is queued, behind the others, and 6 goes back
+abbrev tickedTable : List ℕ
+tickedTable =
+    14 ∷ 10 ∷ 1 ∷ 378691201 ∷ 4 ∷ 4 ∷ 11 ∷ 0 ∷ 1 ∷ 13
+    ∷ 1 ∷ 1 ∷ 0 ∷ 0 ∷ 0 ∷ 0 ∷ 0 ∷ 0
+    ∷ 2 ∷ 2 ∷ 5 ∷ 0 ∷ 22 ∷ 20 ∷ 0 ∷ 0
+    ∷ 3 ∷ 3 ∷ 0 ∷ 0 ∷ 23 ∷ 30 ∷ 0 ∷ 0
+    ∷ 4 ∷ 4 ∷ 5 ∷ 1 ∷ 24 ∷ 40 ∷ 6 ∷ 0
+    ∷ 5 ∷ 5 ∷ 0 ∷ 378691210 ∷ 25 ∷ 50 ∷ 0 ∷ 11
+    ∷ 6 ∷ 6 ∷ 5 ∷ 4 ∷ 26 ∷ 60 ∷ 0 ∷ 4
+    ∷ 7 ∷ 7 ∷ 5 ∷ 0 ∷ 27 ∷ 70 ∷ 0 ∷ 0
+    ∷ 8 ∷ 8 ∷ 5 ∷ 0 ∷ 28 ∷ 80 ∷ 0 ∷ 0
+    ∷ 9 ∷ 9 ∷ 0 ∷ 0 ∷ 29 ∷ 90 ∷ 0 ∷ 0
+    ∷ 12 ∷ 10 ∷ 5 ∷ 0 ∷ 30 ∷ 100 ∷ 0 ∷ 12
+    ∷ 11 ∷ 11 ∷ 0 ∷ 378691209 ∷ 31 ∷ 110 ∷ 5 ∷ 0
+    ∷ 12 ∷ 12 ∷ 5 ∷ 0 ∷ 32 ∷ 120 ∷ 10 ∷ 13
+    ∷ 13 ∷ 13 ∷ 0 ∷ 0 ∷ 33 ∷ 130 ∷ 12 ∷ 0
+    ∷ replicate 8 0
+
 abbrev pub otherCalls : List Call
 otherCalls =
     create 0 ∷ create 7 ∷ ident 0 ∷ ident 7 ∷ ident 12 ∷ ident 14
     ∷ tick (list 41) ∷ tick (list 42) ∷ setClock (at 60) (list 41) ∷ setClock (at 60) (list 42) ∷ setClock (at 10) (list 42) ∷ getClock
-    ∷ initiateServer ∷ serve (list 2) ∷ serve (list 3) ∷ []
+    ∷ initiateServer ∷ serve (list 2) ∷ serve (list 3)
+    ∷ leap 4294967295 (list 41) ∷ leap 4294967295 (list 42) ∷ leap 0 (list 41) ∷ leap 0 (list 42) ∷ leap 1 (list 42) ∷ leap 9 (list 43) ∷ []
 
 -- a call that leaves table and list as they are
 abbrev keeps : ℕ → List ℕ → List ℕ → Outcome
@@ -134,24 +154,9 @@ otherOutcomes =
     ∷ 1 ∷ 7 ∷ 0 ∷ 0 ∷ 0 ∷ 0 ∷ 0 ∷ 0 ∷ [])
     []
     ∷ keeps 3 (0 ∷ []) [] ∷ keeps 0 ((idBase + 7) ∷ []) [] ∷ keeps 0 ((idBase + 12) ∷ []) [] ∷ keeps 3 (0 ∷ []) []
-    -- Tick: 101; 10 is queued, behind the others, and 6 is listed and goes back.
+    -- Tick: 101; 6 is listed.
     ∷ keeps 101 (0 ∷ []) (list 41)
-    ∷ outcomeOf 0 (1 ∷ [])
-    (14 ∷ 10 ∷ 1 ∷ 378691201 ∷ 4 ∷ 4 ∷ 11 ∷ 0 ∷ 1 ∷ 13
-    ∷ 1 ∷ 1 ∷ 0 ∷ 0 ∷ 0 ∷ 0 ∷ 0 ∷ 0
-    ∷ 2 ∷ 2 ∷ 5 ∷ 0 ∷ 22 ∷ 20 ∷ 0 ∷ 0
-    ∷ 3 ∷ 3 ∷ 0 ∷ 0 ∷ 23 ∷ 30 ∷ 0 ∷ 0
-    ∷ 4 ∷ 4 ∷ 5 ∷ 1 ∷ 24 ∷ 40 ∷ 6 ∷ 0
-    ∷ 5 ∷ 5 ∷ 0 ∷ 378691210 ∷ 25 ∷ 50 ∷ 0 ∷ 11
-    ∷ 6 ∷ 6 ∷ 5 ∷ 4 ∷ 26 ∷ 60 ∷ 0 ∷ 4
-    ∷ 7 ∷ 7 ∷ 5 ∷ 0 ∷ 27 ∷ 70 ∷ 0 ∷ 0
-    ∷ 8 ∷ 8 ∷ 5 ∷ 0 ∷ 28 ∷ 80 ∷ 0 ∷ 0
-    ∷ 9 ∷ 9 ∷ 0 ∷ 0 ∷ 29 ∷ 90 ∷ 0 ∷ 0
-    ∷ 12 ∷ 10 ∷ 5 ∷ 0 ∷ 30 ∷ 100 ∷ 0 ∷ 12
-    ∷ 11 ∷ 11 ∷ 0 ∷ 378691209 ∷ 31 ∷ 110 ∷ 5 ∷ 0
-    ∷ 12 ∷ 12 ∷ 5 ∷ 0 ∷ 32 ∷ 120 ∷ 10 ∷ 13
-    ∷ 13 ∷ 13 ∷ 0 ∷ 0 ∷ 33 ∷ 130 ∷ 12 ∷ 0
-    ∷ replicate 8 0)
+    ∷ outcomeOf 0 (1 ∷ []) tickedTable
     ((idBase + 6) ∷ 26 ∷ 60 ∷ list 39)
     -- Set clock: 101, 20; 11 is queued, behind the others, and 5 is listed. Get clock.
     ∷ keeps 101 (0 ∷ []) (list 41) ∷ keeps 20 (0 ∷ []) (list 42)
@@ -192,6 +197,10 @@ otherOutcomes =
     ∷ 9 ∷ 13 ∷ 0 ∷ 0 ∷ 33 ∷ 130 ∷ 0 ∷ 0
     ∷ replicate 8 0)
     ((idBase + 13) ∷ 33 ∷ 130 ∷ [])
+    -- Leap: 101, 10; by 0, by 1 and by more.
+    ∷ keeps 101 (0 ∷ 0 ∷ []) (list 41) ∷ keeps 10 (0 ∷ 0 ∷ []) (list 42) ∷ keeps 101 (0 ∷ 0 ∷ []) (list 41) ∷ keeps 0 (0 ∷ 0 ∷ []) (list 42)
+    ∷ outcomeOf 0 (1 ∷ 1 ∷ []) tickedTable ((idBase + 6) ∷ 26 ∷ 60 ∷ list 39)
+    ∷ outcomeOf 0 (1 ∷ 1 ∷ []) tickedTable ((idBase + 6) ∷ 26 ∷ 60 ∷ list 40)
     ∷ []
 
 -- what comes of a call where it is given whether the table is sound, so that this is computed once and not for each call

@@ -1,11 +1,11 @@
 -- Every accepted call leaves a well-formed state well formed, and fires no more timers than there are slots. The chains are kept in order by
 -- the parts of its work (Steps), each written slot has its shape (Shapes), the clock its bounds (ClockSteps). Assumes nothing.
 use mathlib.Core.Path.{_≡_, refl, sym, ap, _∙_, subst}
-use Prim.Native.Nat.{ℕ, _≤_, _<_, zero-le}
+use Prim.Native.Nat.{ℕ, zero, suc, _≤_, _<_, zero-le}
 use native.Mathlib.Nat.{pos-of-ne-zero}
 use native.Mathlib.Omega.{arith}
 use mathlib.Core.Bool.{Bool, true, false, not}
-use mathlib.Core.List.{List, [], _∷_, _++_}
+use mathlib.Core.List.{List, [], _∷_}
 use lib.ListN.{length, take, drop, length-append}
 use lib.Dec.{leb, ltb, eqb}
 use borrow.Author.Tests.{ltb-true, eqb-true}
@@ -13,10 +13,10 @@ use Rattle.calendar.specs.Calendar.{secondsOf, lastSecond}
 use Rattle.calendar.proofs.Theorems.{seconds-in-range}
 use Rattle.model.specs.Lists.{keep, place, All}
 use Rattle.model.specs.Status.{firstOf}
-use Rattle.model.specs.Calls.{Call, layOut, create, ident, cancel, delete, fireAfter, fireWhen, fireEvery, reset, ticksLeft, tick, setClock, getClock, nextDue, initiateServer, serverFireAfter, serverFireWhen, serve, isLayOut}
+use Rattle.model.specs.Calls.{Call, layOut, create, ident, cancel, delete, fireAfter, fireWhen, fireEvery, reset, ticksLeft, tick, setClock, getClock, nextDue, initiateServer, serverFireAfter, serverFireWhen, serve, leap, isLayOut}
 use Rattle.model.specs.Kinds.{Chain, ByTicks, ByDate, Queue, Mode, After, When, Every, ServerAfter, ServerWhen, kindAt, chainFor, waitingKind, sameChain, waitsIn, forServer, lastMode}
 use Rattle.model.specs.State.{Slot, Link, Clock, State, chainOf, withChain, withClock, free, slotAt, putAt, without, indexOf}
-use Rattle.model.specs.Directives.{refusals, lowestFree, laidOut, stored, neverStarted, stopped, idled, waitingAs, started, firedAll, due, off, fire, withoutServer, front, handedOut, initiated, nearer, clockAt, clockStep, effect}
+use Rattle.model.specs.Directives.{refusals, lowestFree, laidOut, stored, neverStarted, stopped, idled, waitingAs, started, firedAll, due, off, fire, withoutServer, front, handedOut, initiated, nearer, clockAt, clockStep, tickedOnce, dueInTick, Leapt, isQuiet, leapt, effect}
 use Rattle.model.proofs.ListLaws.{cases, clash, all, all-map, all-keep, all-passed, all-zip, all-place, all-mapped, length-keep}
 use Rattle.model.proofs.Order.{all-orderOn}
 use Rattle.model.proofs.Slots.{put-any, length-put, length-firedAll, blank}
@@ -29,6 +29,7 @@ use Rattle.model.proofs.Searches.{found}
 use Rattle.model.proofs.Shapes.{free-shape, never-started-shape, Some, waiting-shape, idle-shape, shape-firedAll}
 use Rattle.model.proofs.Steps.{with-chain-slots, with-chain-clock, with-chain-server, with-chain-each, stored-chain, stopped-chain, length-laid, length-stored, length-stopped, length-started, fire-slots, fire-clock, fire-server, fire-chain, due-parts, none-back, fire-elsewhere, length-fire, chained-stored, chained-stopped, chained-started, chained-fire, chained-nearer, chained-with-clock, chained-laid, chained-handed, chained-initiated, initiated-chain}
 use Rattle.model.proofs.AcceptedCalls.{Named, accepted-facts}
+use Rattle.model.proofs.LeapLaws.{leapt-on, leapt-stops, leapt-keeps}
 
 -- ---- the parts of well-formedness
 
@@ -194,8 +195,8 @@ step-formed c h = record {
 }
 
 module _ (s : State) (h : WellFormed s) where
-  formed-ticked : (words list : List ℕ) → WellFormed (effect words s (tick list) .state)
-  formed-ticked words list =
+  formed-ticked : WellFormed (tickedOnce s)
+  formed-ticked =
       formed-fired (withClock (fire ByTicks 0 (nearer s)) (clockStep (s .clock)))
       (chained-with-clock (fire ByTicks 0 (nearer s)) (clockStep (s .clock)) (chained-fire ByTicks 0 (nearer s) near))
       (omega (arith, length-fire ByTicks 0 (nearer s), h .some-slot))
@@ -254,8 +255,43 @@ module _ (s : State) (h : WellFormed s) where
         by-server = λ p. refl;
       }) (λ k. rw (initiated-chain s k) (all-ahead s h k))
 
-  -- ---- every call
+-- ---- a tick, and a leap
 
+pub tick-slots : (s : State) → length (tickedOnce s .slots) ≡ length (s .slots)
+tick-slots s =
+    let clock = clockStep (s .clock) in
+    length-fire ByDate (clock .second) (withClock (fire ByTicks 0 (nearer s)) clock) ∙ length-fire ByTicks 0 (nearer s)
+
+tick-bound : (s : State) → WellFormed s → length (withoutServer (s .slots) (dueInTick s)) ≤ length (s .slots)
+tick-bound s h =
+    let near = nearer s in
+    let second = clockStep (s .clock) .second in
+    omega (
+      arith,
+      fit-both near (chained-nearer s (h .chained)),
+      length-keep (λ w. not (forServer (kindAt (slotAt (s .slots) (w .slot) .kind) .last))) (dueInTick s),
+      length-append (due ByTicks 0 near) (due ByDate second (fire ByTicks 0 near)),
+      length-keep (λ w. leb (w .wait) 0) (near .ticking),
+      length-keep (λ w. leb (w .wait) second) (fire ByTicks 0 near .dated),
+      ap length (fire-elsewhere ByTicks 0 near (chained-nearer s (h .chained)) ByDate (λ n _. again-not-dated n) refl),
+    )
+
+pub leap-slots : (k : ℕ) (s : State) → length (leapt k s .state .slots) ≡ length (s .slots)
+leap-slots k s = leapt-keeps (λ z. length (z .slots) ≡ length (s .slots)) (λ z e. tick-slots z ∙ e) k s refl
+
+formed-leapt : (k : ℕ) (s : State) → WellFormed s → WellFormed (leapt k s .state)
+formed-leapt k s h = leapt-keeps WellFormed formed-ticked k s h
+
+leap-bound : (k : ℕ) (s : State) → WellFormed s → length (leapt k s .fired) ≤ length (s .slots)
+leap-bound zero s h = zero-le
+leap-bound (suc k) s h =
+    cases (isQuiet s)
+    (λ e. omega (arith, ap (λ (l : Leapt). length (l .fired)) (leapt-on k s e), leap-bound k (tickedOnce s) (formed-ticked s h), tick-slots s))
+    (λ e. omega (arith, ap (λ (l : Leapt). length (l .fired)) (leapt-stops k s e), tick-bound s h))
+
+-- ---- every call
+
+module _ (s : State) (h : WellFormed s) where
   has-name : (id : ℕ) → Named s id → 0 < slotAt (s .slots) (indexOf id) .name
   has-name id is = h .shape (indexOf id) .named (pos-of-ne-zero (is .alive))
 
@@ -302,12 +338,12 @@ module _ (s : State) (h : WellFormed s) where
         (h .shape (indexOf id) .used (timed-started (x .kind) (p .1))) (rw by-ticks some) (rw by-ticks some)
         (λ q. h .shape (indexOf id) .by-server (again-server (x .kind) (omega (arith, h .shape (indexOf id) .kinds)) q))
     kept (ticksLeft id) e = h
-    kept (tick list) e = formed-ticked words list
+    kept (tick list) e = formed-ticked s h
     kept (setClock w list) e =
-        let p = accepted-facts words s (setClock w list) e in formed-clock-set (secondsOf w) (seconds-in-range w (p .1)) (w .ticks) (p .2)
+        let p = accepted-facts words s (setClock w list) e in formed-clock-set s h (secondsOf w) (seconds-in-range w (p .1)) (w .ticks) (p .2)
     kept getClock e = h
     kept nextDue e = h
-    kept initiateServer e = formed-initiated
+    kept initiateServer e = formed-initiated s h
     kept (serverFireAfter id n r u) e =
         let q = accepted-facts words s (serverFireAfter id n r u) e in
         let p = q .1 in
@@ -319,7 +355,8 @@ module _ (s : State) (h : WellFormed s) where
         let is = p .names-one in
         formed-started s h ServerWhen (indexOf id) (secondsOf w) r u (is .low) (is .high) (has-name id is) (p .routine) tt
         (p .running, p .later, seconds-in-range w (p .is-valid)) (λ _. q .0)
-    kept (serve list) e = formed-handed
+    kept (serve list) e = formed-handed s h
+    kept (leap k list) e = formed-leapt k s h
 
 -- ---- what no call changes, and how many fire
 
@@ -338,9 +375,7 @@ module _ (words : List ℕ) (s : State) where
       let x = slotAt (s .slots) (indexOf id) in
       length-started (lastMode (x .kind)) s (indexOf id) (x .interval) (x .routine) (x .userData)
   slots-kept (ticksLeft id) l = refl
-  slots-kept (tick list) l =
-      let clock = clockStep (s .clock) in
-      length-fire ByDate (clock .second) (withClock (fire ByTicks 0 (nearer s)) clock) ∙ length-fire ByTicks 0 (nearer s)
+  slots-kept (tick list) l = tick-slots s
   slots-kept (setClock w list) l = length-fire ByDate (secondsOf w) (withClock s (clockAt (s .clock) (secondsOf w) (w .ticks)))
   slots-kept getClock l = refl
   slots-kept nextDue l = refl
@@ -348,6 +383,7 @@ module _ (words : List ℕ) (s : State) where
   slots-kept (serverFireAfter id n r u) l = length-started ServerAfter s (indexOf id) n r u
   slots-kept (serverFireWhen id w r u) l = length-started ServerWhen s (indexOf id) (secondsOf w) r u
   slots-kept (serve list) l = length-firedAll (front s) (s .slots)
+  slots-kept (leap k list) l = leap-slots k s
 
   -- no call fires more timers than there are slots
   pub bound : WellFormed s → (c : Call) → length (effect words s c .fired) ≤ length (s .slots)
@@ -361,21 +397,7 @@ module _ (words : List ℕ) (s : State) where
   bound h (fireEvery id n r u) = zero-le
   bound h (reset id) = zero-le
   bound h (ticksLeft id) = zero-le
-  bound h (tick list) =
-      let near = nearer s in
-      let second = clockStep (s .clock) .second in
-      omega (
-        arith,
-        fit-both near (chained-nearer s (h .chained)),
-        length-direct (due ByTicks 0 near ++ due ByDate second (fire ByTicks 0 near)),
-        length-append (due ByTicks 0 near) (due ByDate second (fire ByTicks 0 near)),
-        length-keep (λ w. leb (w .wait) 0) (near .ticking),
-        length-keep (λ w. leb (w .wait) second) (fire ByTicks 0 near .dated),
-        ap length (fire-elsewhere ByTicks 0 near (chained-nearer s (h .chained)) ByDate (λ n _. again-not-dated n) refl),
-      )
-    where
-      length-direct : (l : List Link) → length (withoutServer (s .slots) l) ≤ length l
-      length-direct l = length-keep (λ w. not (forServer (kindAt (slotAt (s .slots) (w .slot) .kind) .last))) l
+  bound h (tick list) = tick-bound s h
   bound h (setClock date list) = omega (
     arith,
     fit-both s (h .chained),
@@ -392,3 +414,4 @@ module _ (words : List ℕ) (s : State) where
       front-short : (l : List Link) → length (take 1 l) ≤ length l
       front-short [] = zero-le
       front-short (w ∷ ws) = omega arith
+  bound h (leap k list) = leap-bound k s h

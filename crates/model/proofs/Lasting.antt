@@ -9,10 +9,10 @@ use lib.ListN.{length, replicate}
 use lib.Dec.{leb, ltb, eqb}
 use borrow.Author.Tests.{eqb-true, eqb-false, eq-eqb, ne-eqb}
 use Rattle.calendar.specs.Calendar.{allOf, secondsOf}
-use Rattle.model.specs.Calls.{Call, layOut, create, ident, cancel, delete, fireAfter, fireWhen, fireEvery, reset, ticksLeft, tick, setClock, getClock, nextDue, initiateServer, serverFireAfter, serverFireWhen, serve}
+use Rattle.model.specs.Calls.{Call, layOut, create, ident, cancel, delete, fireAfter, fireWhen, fireEvery, reset, ticksLeft, tick, setClock, getClock, nextDue, initiateServer, serverFireAfter, serverFireWhen, serve, leap}
 use Rattle.model.specs.Kinds.{Kind, Mode, After, When, Every, ServerAfter, ServerWhen, Chain, ByTicks, ByDate, Queue, kindAt, waitingKind, linked, lastMode}
 use Rattle.model.specs.State.{Slot, Link, State, withClock, free, slotAt, putAt, idBase, indexOf, names}
-use Rattle.model.specs.Directives.{lowestFree, laidOut, stored, neverStarted, stopped, idled, waitingAs, started, fired, firedAll, due, fire, front, handedOut, nearer, clockAt, clockStep, effect}
+use Rattle.model.specs.Directives.{lowestFree, laidOut, stored, neverStarted, stopped, idled, waitingAs, started, fired, firedAll, due, fire, front, handedOut, nearer, clockAt, clockStep, tickedOnce, effect}
 use Rattle.model.specs.Words.{sumOf, read}
 use Rattle.model.specs.Sound.{sound}
 use Rattle.model.specs.Outcome.{Outcome, statusOn, outcome}
@@ -27,6 +27,7 @@ use Rattle.model.proofs.Searches.{found}
 use Rattle.model.proofs.GoingOn.{with-chain-slots}
 use Rattle.model.proofs.Steps.{fire-slots}
 use Rattle.model.proofs.AcceptedCalls.{Named, named, named-true, Accepted, accepted-facts}
+use Rattle.model.proofs.LeapLaws.{leapt-keeps}
 use Rattle.model.proofs.OutcomeLaws.{status-is, outcome-accepted}
 use Rattle.model.proofs.SoundHolds.{sound-holds}
 use Rattle.model.proofs.CallTables.{state-left}
@@ -61,6 +62,13 @@ fired-slots (w ∷ ws) sl =
 
 fire-free : (k : Chain) (limit : ℕ) (s : State) → SameFree (s .slots) (fire k limit s .slots)
 fire-free k limit s = rw (fire-slots k limit s) (fired-slots (due k limit s) (s .slots))
+
+tick-free : (s : State) → SameFree (s .slots) (tickedOnce s .slots)
+tick-free s =
+    let clock = clockStep (s .clock) in
+    let ticked = fire ByTicks 0 (nearer s) in
+    then-free (s .slots) (ticked .slots) (fire ByDate (clock .second) (withClock ticked clock) .slots)
+    (fire-free ByTicks 0 (nearer s)) (fire-free ByDate (clock .second) (withClock ticked clock))
 
 start-free : (s : State) (m : Mode) (id amount r u : ℕ) → Named s id → SameFree (s .slots) (started m s (indexOf id) amount r u .slots)
 start-free s m id amount r u is =
@@ -145,12 +153,7 @@ lasts-step words s (reset d) p id =
     let x = slotAt (s .slots) (indexOf d) in
     same-names s (effect words s (reset d) .state) (start-free s (lastMode (x .kind)) d (x .interval) (x .routine) (x .userData) (p .0)) id
 lasts-step words s (ticksLeft d) p id = refl
-lasts-step words s (tick list) p id =
-    let clock = clockStep (s .clock) in
-    let ticked = fire ByTicks 0 (nearer s) in
-    same-names s (effect words s (tick list) .state)
-    (then-free (s .slots) (ticked .slots) (fire ByDate (clock .second) (withClock ticked clock) .slots)
-    (fire-free ByTicks 0 (nearer s)) (fire-free ByDate (clock .second) (withClock ticked clock))) id
+lasts-step words s (tick list) p id = same-names s (tickedOnce s) (tick-free s) id
 lasts-step words s (setClock w list) p id =
     same-names s (effect words s (setClock w list) .state)
     (fire-free ByDate (secondsOf w) (withClock s (clockAt (s .clock) (secondsOf w) (w .ticks)))) id
@@ -162,6 +165,8 @@ lasts-step words s (serverFireAfter d n r u) p id =
 lasts-step words s (serverFireWhen d w r u) p id =
     same-names s (started ServerWhen s (indexOf d) (secondsOf w) r u) (start-free s ServerWhen d (secondsOf w) r u (p .1 .names-one)) id
 lasts-step words s (serve list) p id = same-names s (handedOut s) (fired-slots (front s) (s .slots)) id
+lasts-step words s (leap k list) p id =
+    leapt-keeps (λ z. names z id ≡ names s id) (λ z e. same-names z (tickedOnce z) (tick-free z) id ∙ e) k s refl
 
 -- 14 where the timer stands in no chain
 cancel-status : (named linked : Bool) → _≡_ {A = ℕ} (cond (not named) 4 (cond (not linked) 14 0)) (cond named (cond (eqb (cond linked 1 0) 0) 14 0) 4)

@@ -9,7 +9,7 @@ use lib.ListN.{length, getD, drop, length-map, length-append, length-take, lengt
 use lib.Seq.{getD-drop, getD-append-add}
 use lib.Dec.{eqb}
 use borrow.Author.Tests.{eqb-true, eqb-false}
-use Rattle.model.specs.Calls.{Call, layOut, create, ident, cancel, delete, fireAfter, fireWhen, fireEvery, reset, ticksLeft, tick, setClock, getClock, nextDue, initiateServer, serverFireAfter, serverFireWhen, serve, lentTo}
+use Rattle.model.specs.Calls.{Call, layOut, create, ident, cancel, delete, fireAfter, fireWhen, fireEvery, reset, ticksLeft, tick, setClock, getClock, nextDue, initiateServer, serverFireAfter, serverFireWhen, serve, leap, lentTo}
 use Rattle.model.specs.State.{State, Fired, listed}
 use Rattle.model.specs.Directives.{effect}
 use Rattle.model.specs.Words.{word, read, slotCount}
@@ -82,6 +82,7 @@ fits words s h initiateServer p = zero-le
 fits words s h (serverFireAfter id n r u) p = zero-le
 fits words s h (serverFireWhen id w r u) p = zero-le
 fits words s h (serve list) p = omega (arith, p .1, length-take 1 (s .queue))
+fits words s h (leap k list) p = omega (arith, p .0, bound words s h (leap k list))
 
 module _ (t : List ℕ) (ok : sound t ≡ true) (c : Call) where
   pub list-begins : statusOn t c ≡ 0 → Begins (outcome t c .list) (lentTo c) (map (listed (read t .slots)) (effect t (read t) c .fired))

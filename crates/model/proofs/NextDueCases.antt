@@ -1,5 +1,7 @@
 -- What next due answers between other calls, computed from the definitions. Assumes nothing.
 use mathlib.Core.Path.{_≡_, refl}
+use Prim.Native.Nat.{ℕ}
+use native.Mathlib.Omega.{arith}
 use mathlib.Core.List.{List, [], _∷_, _++_, map}
 use lib.ListN.{replicate}
 use Rattle.calendar.specs.Calendar.{monthsOf, years, valid, secondsOf}
@@ -7,7 +9,7 @@ use Rattle.model.specs.Lists.{least}
 use Rattle.model.specs.Calls.{layOut, create, cancel, fireAfter, fireWhen, fireEvery, tick, setClock, nextDue, initiateServer, serverFireAfter}
 use Rattle.model.specs.Sound.{headerSound, slotSound, chainSound, ticksSound, datesSound, queueSound, sound}
 use Rattle.model.specs.Outcome.{outcomeOf, statusOn, outcome}
-use Rattle.model.specs.NextDue.{waitingForTicks}
+use Rattle.model.specs.NextDue.{waitingForTicks, SameFirst}
 use Rattle.model.proofs.Cases.{Case, calls, computed, date, nine, unlent}
 use Rattle.model.proofs.WorkedCases.{one, two, yes}
 use Rattle.model.proofs.EveryKind.{everyKind}
@@ -47,3 +49,31 @@ waiting-slots = refl
 
 pub leasts : map least ([] ∷ (5 ∷ []) ∷ (5 ∷ 3 ∷ []) ∷ (3 ∷ 5 ∷ []) ∷ (4 ∷ 2 ∷ 3 ∷ []) ∷ []) ≡ 0 ∷ 5 ∷ 3 ∷ 3 ∷ 2 ∷ []
 leasts = refl
+
+-- ---- 100 far off its limits: many slots, and numbers that are no kind
+
+abbrev ofKind : ℕ → List ℕ
+ofKind kind = 1 ∷ 10 ∷ 0 ∷ 0 ∷ 0 ∷ 1 ∷ 0 ∷ 0 ∷ 0 ∷ 0 ∷ kind ∷ 1 ∷ 5 ∷ 5 ∷ 7 ∷ 70 ∷ 0 ∷ 0 ∷ []
+
+pub far-off : map (λ t. statusOn t nextDue)
+    ((257 ∷ replicate 2065 0) ∷ (1000 ∷ replicate 8009 0) ∷ map ofKind (14 ∷ 15 ∷ 16 ∷ 260 ∷ 4294967295 ∷ []))
+    ≡ replicate 7 100
+unfolding statusOn
+far-off = refl
+
+-- ---- slices that differ in all that it does not read
+
+abbrev named : List ℕ
+named = 2 ∷ 10 ∷ 0 ∷ 0 ∷ 0 ∷ 2 ∷ 0 ∷ 0 ∷ 0 ∷ 0 ∷ replicate 8 0 ++ (4 ∷ 1 ∷ 9 ∷ 3 ∷ 7 ∷ 70 ∷ 0 ∷ 0 ∷ 0 ∷ [])
+
+abbrev elsewhere : List ℕ
+elsewhere = 2 ∷ 11 ∷ 5 ∷ 6 ∷ 7 ∷ 2 ∷ 8 ∷ 9 ∷ 10 ∷ 11 ∷ replicate 8 5 ++ (4 ∷ 2 ∷ 8 ∷ 3 ∷ 9 ∷ 99 ∷ 5 ∷ 6 ∷ 1 ∷ [])
+
+pub only-these : SameFirst named elsewhere
+only-these = record { long = refl; count = refl; head = refl; kind = λ _ _. refl; wait = λ _ _. refl }
+
+abbrev noneFirst : ℕ → List ℕ
+noneFirst x = 1 ∷ x ∷ x ∷ x ∷ x ∷ 0 ∷ replicate 12 x
+
+pub not-even-a-slot : SameFirst (noneFirst 0) (noneFirst 6)
+not-even-a-slot = record { long = refl; count = refl; head = refl; kind = λ l _. absurd (omega (arith, l)); wait = λ l _. absurd (omega (arith, l)) }

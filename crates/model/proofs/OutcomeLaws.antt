@@ -6,7 +6,7 @@ use mathlib.Core.List.{List}
 use lib.Dec.{eqb}
 use borrow.Author.Tests.{eqb-true, eqb-false, eq-eqb, ne-eqb}
 use Rattle.model.specs.Status.{Status, numberOf, firstOf}
-use Rattle.model.specs.Calls.{Call, layOut, create, ident, cancel, delete, fireAfter, fireWhen, fireEvery, reset, ticksLeft, tick, setClock, getClock, nextDue, initiateServer, serverFireAfter, serverFireWhen, serve, isLayOut, isNextDue}
+use Rattle.model.specs.Calls.{Call, layOut, create, ident, cancel, delete, fireAfter, fireWhen, fireEvery, reset, ticksLeft, tick, setClock, getClock, nextDue, initiateServer, serverFireAfter, serverFireWhen, serve, leap, isLayOut, isNextDue, isLeap}
 use Rattle.model.specs.Directives.{refusals}
 use Rattle.model.specs.Words.{read}
 use Rattle.model.specs.Outcome.{Outcome, statusOn, refused, accepted, outcome}
@@ -33,6 +33,29 @@ each-call P lay other initiateServer = other initiateServer refl
 each-call P lay other (serverFireAfter id n r u) = other (serverFireAfter id n r u) refl
 each-call P lay other (serverFireWhen id w r u) = other (serverFireWhen id w r u) refl
 each-call P lay other (serve list) = other (serve list) refl
+each-call P lay other (leap k list) = other (leap k list) refl
+
+-- what holds of a leap and of all that are none
+pub each-leap : (P : Call → Type 0) → ((k : ℕ) (list : List ℕ) → P (leap k list)) → ((c : Call) → isLeap c ≡ false → P c) → (c : Call) → P c
+each-leap P leaping other (layOut n t) = other (layOut n t) refl
+each-leap P leaping other (create name) = other (create name) refl
+each-leap P leaping other (ident name) = other (ident name) refl
+each-leap P leaping other (cancel id) = other (cancel id) refl
+each-leap P leaping other (delete id) = other (delete id) refl
+each-leap P leaping other (fireAfter id n r u) = other (fireAfter id n r u) refl
+each-leap P leaping other (fireWhen id w r u) = other (fireWhen id w r u) refl
+each-leap P leaping other (fireEvery id n r u) = other (fireEvery id n r u) refl
+each-leap P leaping other (reset id) = other (reset id) refl
+each-leap P leaping other (ticksLeft id) = other (ticksLeft id) refl
+each-leap P leaping other (tick list) = other (tick list) refl
+each-leap P leaping other (setClock w list) = other (setClock w list) refl
+each-leap P leaping other getClock = other getClock refl
+each-leap P leaping other nextDue = other nextDue refl
+each-leap P leaping other initiateServer = other initiateServer refl
+each-leap P leaping other (serverFireAfter id n r u) = other (serverFireAfter id n r u) refl
+each-leap P leaping other (serverFireWhen id w r u) = other (serverFireWhen id w r u) refl
+each-leap P leaping other (serve list) = other (serve list) refl
+each-leap P leaping other (leap k list) = leaping k list
 
 pub next-due-is : (c : Call) → isNextDue c ≡ true → c ≡ nextDue
 next-due-is (layOut n t) e = clash (sym e)
@@ -53,6 +76,7 @@ next-due-is initiateServer e = clash (sym e)
 next-due-is (serverFireAfter id n r u) e = clash (sym e)
 next-due-is (serverFireWhen id w r u) e = clash (sym e)
 next-due-is (serve list) e = clash (sym e)
+next-due-is (leap k list) e = clash (sym e)
 
 pub status-is : (t : List ℕ) (c : Call) → statusOn t c ≡ firstOf (refusals t (read t) c)
 unfolding statusOn

@@ -48,7 +48,7 @@ module _ (w : List ℕ) (n t : ℕ) (ok : outcome w (layOut n t) .status ≡ 0) 
   pub serve-lists-front : (list : List ℕ) (q : List Start) → IsQueue es q → let o = outcome (after w (layOut n t ∷ xs)) (serve list) in
       o .status ≡ 0 → (o .answer ≡ length (take 1 q) ∷ []) × Begins (o .list) list (map entryOf (take 1 q))
   serve-lists-front list q is accepted =
-      let a = demand3 w n t ok (xs ++ (serve list ∷ [])) .answers xs [] (serve list) refl .lists accepted in
+      let a = demand3 w n t ok (xs ++ (serve list ∷ [])) .answers xs [] (serve list) refl .lists refl accepted in
       let same = one-queue es (a .queue) q (a .is-queue) is in (
         a .served list refl ∙ ap (λ (l : List Start). length (take 1 l) ∷ []) same,
         subst (Begins (outcome (after w (layOut n t ∷ xs)) (serve list) .list) list)

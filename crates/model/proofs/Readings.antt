@@ -13,7 +13,7 @@ use borrow.Author.Tests.{eqb-true, leb-true, leb-false, eq-eqb, ne-eqb}
 use Rattle.calendar.specs.declared.WallTime.{WallTime}
 use Rattle.calendar.specs.Calendar.{secondsOf}
 use Rattle.model.specs.Lists.{goesBehind, keep, any, place, All, Sorted, InOrder}
-use Rattle.model.specs.Calls.{Call, layOut, tick, setClock, lentTo}
+use Rattle.model.specs.Calls.{Call, layOut, tick, setClock, isLeap, lentTo}
 use Rattle.model.specs.Kinds.{Chain, ByTicks, ByDate, Queue, Mode, After, When, Every, ServerAfter, ServerWhen, chainFor, isPeriodic, isServer, sameChain}
 use Rattle.model.specs.State.{withClock, Fired}
 use Rattle.model.specs.History.{Start, startOf, Event, changes, oneTick, eventOf, clockSetTo, startIn, isTick, ticks, past, movesClock, Placed, withEvent, placed, starts, ends, wasEnded, dueIn, isDue, wasDueIn, wasDue, comesDue, isQueued, fires, goesBack, inTurn, inChain, ticksLeftOrDate, entryOf, entry, servesIn, Queues, IsQueue}
@@ -29,7 +29,7 @@ use Rattle.model.proofs.HistoryLaws.{all-starts, fewer}
 use Rattle.model.proofs.KindLaws.{dated-not-again, not-queue}
 use Rattle.model.proofs.SoundHolds.{sound-holds}
 use Rattle.model.proofs.Steps.{fire-elsewhere, chained-with-clock}
-use Rattle.model.proofs.OutcomeLaws.{outcome-accepted, outcome-status}
+use Rattle.model.proofs.OutcomeLaws.{each-leap, outcome-accepted, outcome-status}
 use Rattle.model.proofs.CallTables.{effect-holds}
 use Rattle.model.proofs.Demand3.{demand3}
 
@@ -280,7 +280,7 @@ listed-at-tick : (w : List ℕ) (n t : ℕ) → outcome w (layOut n t) .status �
     → eventsAfter w (layOut n t ∷ xs) ≡ Q ++ (changes id (some s) ∷ P) → fires oneTick (startAt P id s Q) ≡ true
     → Lists (after w (layOut n t ∷ xs)) (tick list) list (s .id) (s .routine) (s .userData)
 listed-at-tick w n t ok xs list P Q id s ticking accepted is now =
-    let a = demand3 w n t ok (xs ++ (tick list ∷ [])) .answers xs [] (tick list) refl .lists accepted in (
+    let a = demand3 w n t ok (xs ++ (tick list ∷ [])) .answers xs [] (tick list) refl .lists refl accepted in (
       map entry (a .ticking ++ a .dated) ++ [],
       a .entries,
       Memᴰ·append-left [] (Memᴰ·map entry (Memᴰ·append-left (a .dated) (fires-listed ByTicks P Q id s oneTick (a .ticking) ticking now
@@ -315,6 +315,10 @@ only-multiples P Q id timer k r u e now =
     let rest = eqb-true (suc (ticks Q) % k) 0 (tick .1) in
     (tick .0, (suc (ticks Q) / k, sym (div-add-mod' (suc (ticks Q)) k) ∙ ap (λ (j : ℕ). suc (ticks Q) / k * k + j) rest ∙ add-zero _))
 
+-- a tick and a set clock are no leap, which is several
+moves-once : (es : List Event) (c : Call) → movesClock (eventOf es c) ≡ true → isLeap c ≡ false
+moves-once es = each-leap (λ c. movesClock (eventOf es c) ≡ true → isLeap c ≡ false) (λ k list moving. clash (sym moving)) (λ c one _. one)
+
 -- An accepted tick or set clock that leaves the clock at or past a date lists a start for that date, where none before it did so and nothing
 -- ended it.
 pub date-lists : (w : List ℕ) (n t : ℕ) → outcome w (layOut n t) .status ≡ 0 → (xs : List Call) (c : Call) (P Q : List Event) (id timer d r u : ℕ)
@@ -326,7 +330,7 @@ pub date-lists : (w : List ℕ) (n t : ℕ) → outcome w (layOut n t) .status �
 date-lists w n t ok xs c P Q id timer d r u accepted is quiet before moving there =
     let es = eventsAfter w (layOut n t ∷ xs) in
     let e = eventOf es c in
-    let a = demand3 w n t ok (xs ++ (c ∷ [])) .answers xs [] c refl .lists accepted in
+    let a = demand3 w n t ok (xs ++ (c ∷ [])) .answers xs [] c refl .lists (moves-once es c moving) accepted in
     let s = forDate timer d r u in
     let now : fires e (startAt P id s Q) ≡ true =
     at-date P Q id timer d r u e ∙ ap₂ (λ (x y : Bool). (not x && not y) && (movesClock e && past d (e ∷ Q ++ (changes id (some s) ∷ P)))) quiet before
@@ -338,18 +342,18 @@ date-lists w n t ok xs c P Q id timer d r u accepted is quiet before moving ther
           (subst (λ (l : List Event). InOrder ticksLeftOrDate (keep (inChain ByDate) (keep (fires e) (starts l))) (a .dated)) is (a .dated-order))))),
     )
 
--- Each entry that any accepted call writes is that of a start that is due there and was not ended, and, unless it is periodic, was not due before;
--- or, in a serve, that of the front of the queue.
-pub lists-only : (w : List ℕ) (n t : ℕ) → outcome w (layOut n t) .status ≡ 0 → (xs : List Call) (c : Call)
+-- Each entry that any accepted call but a leap writes is that of a start that is due there and was not ended, and, unless it is periodic, was not due
+-- before; or, in a serve, that of the front of the queue.
+pub lists-only : (w : List ℕ) (n t : ℕ) → outcome w (layOut n t) .status ≡ 0 → (xs : List Call) (c : Call) → isLeap c ≡ false
     → outcome (after w (layOut n t ∷ xs)) c .status ≡ 0
     → (l : List Placed) × (q : List Start) × IsQueue (eventsAfter w (layOut n t ∷ xs)) q
     × Begins (outcome (after w (layOut n t ∷ xs)) c .list) (lentTo c)
     (map entry l ++ map entryOf (take (servesIn (eventOf (eventsAfter w (layOut n t ∷ xs)) c)) q))
     × All (Listed (eventsAfter w (layOut n t ∷ xs)) (eventOf (eventsAfter w (layOut n t ∷ xs)) c)) l
-lists-only w n t ok xs c accepted =
+lists-only w n t ok xs c one accepted =
     let es = eventsAfter w (layOut n t ∷ xs) in
     let e = eventOf es c in
-    let a = demand3 w n t ok (xs ++ (c ∷ [])) .answers xs [] c refl .lists accepted in (
+    let a = demand3 w n t ok (xs ++ (c ∷ [])) .answers xs [] c refl .lists one accepted in (
       a .ticking ++ a .dated,
       a .queue,
       a .is-queue,

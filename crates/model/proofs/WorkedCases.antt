@@ -6,7 +6,7 @@ use mathlib.Core.Option.{some}
 use mathlib.Core.List.{List, [], _∷_, _++_, map}
 use lib.ListN.{replicate}
 use Rattle.calendar.specs.Calendar.{monthsOf, years, valid, secondsOf, dateOf}
-use Rattle.model.specs.Calls.{Call, layOut, create, ident, cancel, delete, fireAfter, fireWhen, fireEvery, reset, ticksLeft, tick, setClock, getClock, nextDue, initiateServer, serverFireAfter, serverFireWhen, serve, callNumber}
+use Rattle.model.specs.Calls.{Call, layOut, create, ident, cancel, delete, fireAfter, fireWhen, fireEvery, reset, ticksLeft, tick, setClock, getClock, nextDue, initiateServer, serverFireAfter, serverFireWhen, serve, leap, callNumber}
 use Rattle.model.specs.Sound.{headerSound, slotSound, chainSound, ticksSound, datesSound, queueSound, sound}
 use Rattle.model.specs.Outcome.{statusOn, outcome}
 use Rattle.model.specs.Kinds.{After, Every}
@@ -156,11 +156,13 @@ worked = refl
 
 -- ---- the calls' numbers: document 01's list from 1 on, then document 02's, item 8
 
-pub numbered : map callNumber
-    (layOut 1 10 ∷ create 1 ∷ ident 1 ∷ cancel 1 ∷ delete 1 ∷ fireAfter 1 1 1 1 ∷ fireWhen 1 (date 2000 1 1 0 0 0) 1 1 ∷ reset 1 ∷ ticksLeft 1 ∷ tick []
+abbrev pub oneOfEach : List Call
+oneOfEach =
+    layOut 1 10 ∷ create 1 ∷ ident 1 ∷ cancel 1 ∷ delete 1 ∷ fireAfter 1 1 1 1 ∷ fireWhen 1 (date 2000 1 1 0 0 0) 1 1 ∷ reset 1 ∷ ticksLeft 1 ∷ tick []
     ∷ setClock (date 2000 1 1 0 0 0) [] ∷ getClock ∷ fireEvery 1 1 1 1 ∷ nextDue ∷ initiateServer ∷ serverFireAfter 1 1 1 1 ∷ serverFireWhen 1 (date 2000 1 1 0 0 0) 1 1
-    ∷ serve [] ∷ [])
-    ≡ 1 ∷ 2 ∷ 3 ∷ 4 ∷ 5 ∷ 6 ∷ 7 ∷ 8 ∷ 9 ∷ 10 ∷ 11 ∷ 12 ∷ 13 ∷ 14 ∷ 15 ∷ 16 ∷ 17 ∷ 18 ∷ []
+    ∷ serve [] ∷ leap 1 [] ∷ []
+
+pub numbered : map callNumber oneOfEach ≡ 1 ∷ 2 ∷ 3 ∷ 4 ∷ 5 ∷ 6 ∷ 7 ∷ 8 ∷ 9 ∷ 10 ∷ 11 ∷ 12 ∷ 13 ∷ 14 ∷ 15 ∷ 16 ∷ 17 ∷ 18 ∷ 19 ∷ []
 numbered = refl
 
 -- ---- the order among equals

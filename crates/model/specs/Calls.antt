@@ -1,4 +1,4 @@
--- The calls with their arguments, in document 01's order, document 02's beside those that they are like. A list that is lent to a call comes with its words.
+-- The calls with their arguments, in document 01's order, document 02's beside those that they are like or behind them. A list that is lent to a call comes with its words.
 -- Assumes nothing: these are definitions.
 use Prim.Native.Nat.{ℕ}
 use mathlib.Core.Bool.{Bool, cond}
@@ -32,6 +32,8 @@ pub data Call : Type 0 where
   serverFireAfter : ℕ → ℕ → ℕ → ℕ → Call
   serverFireWhen : ℕ → WallTime → ℕ → ℕ → Call
   serve : List ℕ → Call
+  -- ticks in one call, and the lent list
+  leap : ℕ → List ℕ → Call
 
 -- the calls' numbers: from 1 by the list that opens document 01, then by document 02, item 8
 abbrev pub callNumber : Call → ℕ
@@ -53,6 +55,7 @@ callNumber initiateServer = 15
 callNumber (serverFireAfter id n r u) = 16
 callNumber (serverFireWhen id w r u) = 17
 callNumber (serve list) = 18
+callNumber (leap k list) = 19
 
 -- lay out takes any slice of words, and next due any in which it finds what it reads; every other call wants a sound table
 abbrev pub isLayOut : Call → Bool
@@ -60,6 +63,10 @@ isLayOut c = eqb (callNumber c) 1
 
 abbrev pub isNextDue : Call → Bool
 isNextDue c = eqb (callNumber c) 14
+
+-- a leap is several ticks
+abbrev pub isLeap : Call → Bool
+isLeap c = eqb (callNumber c) 19
 
 -- the list that is lent to a call; no words where it takes none
 abbrev pub lentTo : Call → List ℕ
@@ -81,7 +88,8 @@ lentTo initiateServer = []
 lentTo (serverFireAfter id n r u) = []
 lentTo (serverFireWhen id w r u) = []
 lentTo (serve list) = list
+lentTo (leap k list) = list
 
--- how many numbers a call answers: get clock seven, any other one; how far a set clock moved stands beside (`movement`)
+-- how many numbers a call answers: get clock seven, leap two, any other one; how far a set clock moved stands beside (`movement`)
 abbrev pub answerCount : Call → ℕ
-answerCount c = cond (eqb (callNumber c) 12) 7 1
+answerCount c = cond (isLeap c) 2 (cond (eqb (callNumber c) 12) 7 1)

@@ -1,33 +1,41 @@
 -- Demand 3: a single claim about every list of calls from every accepted lay out, the last definition here. Assumes nothing: these are definitions.
 use mathlib.Core.Path.{_≡_}
-use Prim.Native.Nat.{ℕ, suc, _+_, _*_, _≤_}
+use Prim.Native.Nat.{ℕ, suc, _+_, _*_, _≤_, _<_}
 use mathlib.Core.Bool.{true, false, cond, _&&_}
 use mathlib.Core.Option.{none, some}
 use mathlib.Core.List.{List, [], _∷_, _++_, map, reverse}
 use lib.ListN.{length, getD, take, replicate}
 use lib.IntN.{pos, _-ℤ_}
-use lib.Dec.{ltb, eqb}
+use lib.Dec.{leb, ltb, eqb}
 use Rattle.calendar.specs.declared.WallTime.{WallTime}
 use Rattle.calendar.specs.Calendar.{valid, dateOf}
 use Rattle.model.specs.Lists.{least, keep, any, count, InOrder}
-use Rattle.model.specs.Calls.{Call, layOut, create, cancel, reset, ticksLeft, tick, setClock, getClock, nextDue, serve, lentTo, answerCount}
+use Rattle.model.specs.Calls.{Call, layOut, create, cancel, reset, ticksLeft, tick, setClock, getClock, nextDue, serve, leap, lentTo, answerCount, isLeap}
 use Rattle.model.specs.Kinds.{Chain, ByTicks, ByDate, Queue, kindAt, chainFor}
 use Rattle.model.specs.State.{Slot, Link, slotAt, waitAt, indexOf, names, Fired, listed}
 use Rattle.model.specs.Words.{first, sumOf, word, along, links, read, slotCount, ticksPerSecond, clockSet, seconds, ticksInto, serverInitiated, previousOf}
 use Rattle.model.specs.Directives.{numbers}
 use Rattle.model.specs.Sound.{sound}
 use Rattle.model.specs.Outcome.{outcome, movement}
-use Rattle.model.specs.History.{Start, Event, changes, lastStart, lastsAfter, Placed, Waiting, eventOf, eventsOn, perSecond, clockAfter, movesClock, starts, waits, fires, inChain, ticksLeftOrDate, waiting, entryOf, entry, isInitiated, servesIn, IsQueue, queuedAs, ends, serves, takenOff}
+use Rattle.model.specs.History.{Start, Event, changes, oneTick, lastStart, lastsAfter, Placed, Waiting, eventOf, eventsOn, perSecond, clockAfter, movesClock, starts, waits, fires, inChain, ticksLeftOrDate, waiting, entryOf, entry, isInitiated, servesIn, IsQueue, queuedAs, ends, serves, takenOff}
 
 -- Each call gets the table that the last one left.
 abbrev pub after : List ℕ → List Call → List ℕ
 after t [] = t
 after t (c ∷ cs) = after (outcome t c .table) cs
 
--- Accepted means status 0.
+-- the ticks that a leap answers to have done
+abbrev pub ticksDone : List ℕ → ℕ
+ticksDone answer = getD answer 1 0
+
+-- What an accepted call is in single calls: a leap is as many ticks as it has done, each lent its list; any other call is itself.
+abbrev pub singly : List ℕ → Call → List Call
+singly t c = cond (isLeap c) (replicate (ticksDone (outcome t c .answer)) (tick (lentTo c))) (c ∷ [])
+
+-- Accepted means status 0. Each tick of an accepted leap counts as an accepted tick.
 abbrev pub acceptedIn : List ℕ → List Call → List Call
 acceptedIn t [] = []
-acceptedIn t (c ∷ cs) = cond (eqb (outcome t c .status) 0) (c ∷ acceptedIn (outcome t c .table) cs) (acceptedIn (outcome t c .table) cs)
+acceptedIn t (c ∷ cs) = cond (eqb (outcome t c .status) 0) (singly t c ++ acceptedIn (outcome t c .table) cs) (acceptedIn (outcome t c .table) cs)
 
 -- a link of a chain with what its slot shows
 abbrev pub shown : List Slot → Link → Waiting
@@ -75,7 +83,7 @@ pub record Begins (list lent : List ℕ) (fs : List Fired) : Type 0 where
 
 -- What the accepted call c, which is the event e, has to list on the table t after these events: the timers that fire in it, those due in this
 -- call and not ended before, interval ones first, each kind in firing order. A tick and a set clock answer their number, no other call fires
--- any, and there are never more than slots. A serve lists the front of the queue, if there is one, and answers how many it lists.
+-- any (a leap is its ticks), and there are never more than slots. A serve lists the front of the queue, if there is one, and answers how many it lists.
 pub record Lists (t : List ℕ) (es : List Event) (c : Call) (e : Event) : Type 0 where
   pub ticking : List Placed
   pub dated : List Placed
@@ -89,17 +97,48 @@ pub record Lists (t : List ℕ) (es : List Event) (c : Call) (e : Event) : Type 
   pub fires-none : movesClock e ≡ false → ticking ++ dated ≡ []
   pub few : length (ticking ++ dated) ≤ slotCount t
 
+-- a tick on the table t is accepted, answers that count, and leaves that list
+pub record TickGives (t list : List ℕ) (count : ℕ) (left : List ℕ) : Type 0 where
+  pub accepted : outcome t (tick list) .status ≡ 0
+  pub counts : outcome t (tick list) .answer ≡ count ∷ []
+  pub leaves : outcome t (tick list) .list ≡ left
+
+-- an empty tick: it neither fires nor queues a timer
+abbrev pub EmptyTick : List ℕ → List ℕ → Type 0
+EmptyTick t list = TickGives t list 0 list × (links Queue (outcome t (tick list) .table) ≡ links Queue t)
+
+-- What an accepted leap by k has to be on the table t: table, list and count are those of that many single ticks, one after the other, of which all
+-- but the last are empty; it stops before k only where the last one fires or queues a timer.
+pub record Leaps (t : List ℕ) (k : ℕ) (list : List ℕ) : Type 0 where
+  pub count : ℕ
+  pub done : ℕ
+  pub answer : outcome t (leap k list) .answer ≡ count ∷ done ∷ []
+  pub table : outcome t (leap k list) .table ≡ after t (replicate done (tick list))
+  pub empty : (m : ℕ) → suc m < done → EmptyTick (after t (replicate m (tick list))) list
+  pub last : (m : ℕ) → suc m ≡ done → TickGives (after t (replicate m (tick list))) list count (outcome t (leap k list) .list)
+  pub still : done ≡ 0 → (count ≡ 0) × (outcome t (leap k list) .list ≡ list)
+  pub within : done ≤ k
+  pub stops : count ≡ 0 → links Queue (outcome t (leap k list) .table) ≡ links Queue t → done ≡ k
+
 -- the first number of an answer
 abbrev pub firstNumber : List ℕ → ℕ
 firstNumber answer = getD answer 0 0
 
 -- What is demanded of the call c, which is the event e where it is accepted, on the table t after these events.
 pub record Answers (t : List ℕ) (es : List Event) (c : Call) (e : Event) : Type 0 where
-  pub lists : outcome t c .status ≡ 0 → Lists t es c e
-  -- A tick, a set clock and a serve are lent that list, no other call is (`lentTo`).
+  pub lists : isLeap c ≡ false → outcome t c .status ≡ 0 → Lists t es c e
+  -- An accepted leap is its ticks, and each of them lists what it has to.
+  pub leaps : (k : ℕ) (list : List ℕ) → c ≡ leap k list → outcome t c .status ≡ 0 → Leaps t k list
+  pub each-tick : (k : ℕ) (list : List ℕ) → c ≡ leap k list → outcome t c .status ≡ 0 → (m : ℕ) → m < ticksDone (outcome t c .answer)
+      → Lists (after t (replicate m (tick list))) (replicate m oneTick ++ es) (tick list) oneTick
+  -- It is refused with 101 where its list is shorter than 3N words, whatever k, then with 10 where k is above 1,000,000.
+  pub leap-takes : (k : ℕ) (list : List ℕ) → c ≡ leap k list
+      → outcome t c .status ≡ cond (ltb (length list) (3 * slotCount t)) 101 (cond (leb k 1000000) 0 10)
+  -- A tick, a set clock, a serve and a leap are lent that list, no other call is (`lentTo`).
   pub lent-tick : (list : List ℕ) → c ≡ tick list → lentTo c ≡ list
   pub lent-set : (w : WallTime) (list : List ℕ) → c ≡ setClock w list → lentTo c ≡ list
   pub lent-serve : (list : List ℕ) → c ≡ serve list → lentTo c ≡ list
+  pub lent-leap : (k : ℕ) (list : List ℕ) → c ≡ leap k list → lentTo c ≡ list
   -- A cancel whose id names no timer is refused with 4; of a timer that is in no chain, neither waiting nor queued, with 14. Any other is accepted,
   -- and the timer is in none then.
   pub cancels : (id : ℕ) → c ≡ cancel id → outcome t c .status ≡ cond (names (read t) id) (cond (eqb (timesLinked t (indexOf id)) 0) 14 0) 4

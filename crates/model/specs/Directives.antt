@@ -1,6 +1,6 @@
 -- Document 01, "Status numbers" and "What each call does": for each call, in its order, when it is refused and what it does.
 -- Assumes nothing: these are definitions.
-use Prim.Native.Nat.{ℕ, suc, _+_, _-_, _*_}
+use Prim.Native.Nat.{ℕ, suc, _+_, _-_, _*_, zero}
 use mathlib.Core.Bool.{Bool, true, false, cond, not, _&&_, _||_}
 use mathlib.Core.Option.{Option, none, some}
 use mathlib.Core.List.{List, [], _∷_, _++_, map}
@@ -11,7 +11,7 @@ use Rattle.calendar.specs.declared.WallTime.{WallTime}
 use Rattle.calendar.specs.Calendar.{allOf, valid, secondsOf, lastSecond, dateOf}
 use Rattle.model.specs.Lists.{keep, place}
 use Rattle.model.specs.Status.{Refusal, when, InvalidName, InvalidId, TooMany, InvalidSize, InvalidAddress, InvalidNumber, NotDefined, IncorrectState, InvalidClock, NotSound, ListTooShort}
-use Rattle.model.specs.Calls.{Call, layOut, create, ident, cancel, delete, fireAfter, fireWhen, fireEvery, reset, ticksLeft, tick, setClock, getClock, nextDue, initiateServer, serverFireAfter, serverFireWhen, serve}
+use Rattle.model.specs.Calls.{Call, layOut, create, ident, cancel, delete, fireAfter, fireWhen, fireEvery, reset, ticksLeft, tick, setClock, getClock, nextDue, initiateServer, serverFireAfter, serverFireWhen, serve, leap}
 use Rattle.model.specs.Kinds.{Chain, ByTicks, ByDate, Queue, Mode, After, When, Every, ServerAfter, ServerWhen, kindAt, chainFor, waitingKind, intervalIn, waitsIn, linked, lastByTicks, forServer, lastMode}
 use Rattle.model.specs.Words.{slotCount, firstTicking, kindOf, waitOf}
 use Rattle.model.specs.Sound.{sound}
@@ -35,6 +35,10 @@ notAhead s w = not (valid w && ltb (s .clock .second) (secondsOf w))
 
 abbrev pub notSettable : State → WallTime → Bool
 notSettable s w = not (valid w && ltb (w .ticks) (s .clock .perSecond))
+
+-- A leap is by 0 to 1,000,000 ticks.
+abbrev pub mostLeap : ℕ
+mostLeap = 1000000
 
 -- N is 1 to 255 and T 1 to 1,000
 abbrev pub limits : ℕ → ℕ → List Bool
@@ -211,12 +215,39 @@ firing s links = record { state = s; answer = length links ∷ []; fired = links
 
 -- Those at zero fire in chain order; then, at the clock's new second, dated timers. Where the second did not go up none are due, since
 -- all dates are above it.
+abbrev pub tickedOnce : State → State
+tickedOnce s = let clock = clockStep (s .clock) in fire ByDate (clock .second) (withClock (fire ByTicks 0 (nearer s)) clock)
+
+abbrev pub dueInTick : State → List Link
+dueInTick s =
+    let clock = clockStep (s .clock) in due ByTicks 0 (nearer s) ++ due ByDate (clock .second) (withClock (fire ByTicks 0 (nearer s)) clock)
+
 abbrev pub ticked : State → Effect
-ticked s =
-    let near = nearer s in
-    let clock = clockStep (s .clock) in
-    let later = withClock (fire ByTicks 0 near) clock in
-    firing (fire ByDate (clock .second) later) (withoutServer (s .slots) (due ByTicks 0 near ++ due ByDate (clock .second) later))
+ticked s = firing (tickedOnce s) (withoutServer (s .slots) (dueInTick s))
+
+-- Leap: it stops after the first tick that fires or queues a timer, else after k. What its ticks leave, how many they are, and the timers that
+-- fire, all of them in the last one.
+pub record Leapt : Type 0 where
+  pub state : State
+  pub done : ℕ
+  pub fired : List Link
+
+-- no timer is due in the next tick
+abbrev pub isQuiet : State → Bool
+isQuiet s = eqb (length (dueInTick s)) 0
+
+abbrev pub oneMore : Leapt → Leapt
+oneMore l = record { state = l .state; done = suc (l .done); fired = l .fired }
+
+abbrev pub leapt : ℕ → State → Leapt
+leapt zero s = record { state = s; done = 0; fired = [] }
+leapt (suc k) s =
+    cond (isQuiet s) (oneMore (leapt k (tickedOnce s)))
+    (record { state = tickedOnce s; done = 1; fired = withoutServer (s .slots) (dueInTick s) })
+
+-- It answers the count fired and, beside it, the ticks done.
+abbrev pub leaping : Leapt → Effect
+leaping l = record { state = l .state; answer = length (l .fired) ∷ l .done ∷ []; fired = l .fired }
 
 -- Set clock: seconds as given, the ticks field in word 4, clock set. Dated timers at or before the new second fire now. Interval timers don't
 -- change. A clock set back moves no date.
@@ -331,6 +362,11 @@ directive (serverFireWhen id d r u) = record {
 directive (serve list) = record {
   rules = λ w s. unsound w ∷ when ListTooShort (ltb (length list) 3) ∷ notInitiated s ∷ [];
   does = λ w s. firing (handedOut s) (front s);
+}
+-- More than 1,000,000 is 10, after 100 and, whatever k, tick's 101.
+directive (leap k list) = record {
+  rules = λ w s. unsound w ∷ when ListTooShort (isShort s list) ∷ when InvalidNumber (ltb mostLeap k) ∷ [];
+  does = λ w s. leaping (leapt k s);
 }
 
 -- a call's rules, and what it does

@@ -1,4 +1,4 @@
--- Document 01, "The words of demand 3", and document 02, items 1, 2 and 5: what a list of accepted calls means, with no table in sight.
+-- Document 01, "The words of demand 3", and document 02, items 1, 2, 5 and 7: what a list of accepted calls means, with no table in sight.
 -- A list of events is read backwards, the latest first. Assumes nothing: these are definitions.
 use Prim.Native.Nat.{ℕ, suc, _+_, _-_, _*_, _%_, min}
 use mathlib.Core.Path.{_≡_}
@@ -9,7 +9,7 @@ use lib.ListN.{drop}
 use lib.Dec.{leb, eqb}
 use Rattle.calendar.specs.Calendar.{secondsOf, lastSecond}
 use Rattle.model.specs.Lists.{keep, any, count, InOrder}
-use Rattle.model.specs.Calls.{Call, layOut, create, ident, cancel, delete, fireAfter, fireWhen, fireEvery, reset, ticksLeft, tick, setClock, getClock, nextDue, initiateServer, serverFireAfter, serverFireWhen, serve}
+use Rattle.model.specs.Calls.{Call, layOut, create, ident, cancel, delete, fireAfter, fireWhen, fireEvery, reset, ticksLeft, tick, setClock, getClock, nextDue, initiateServer, serverFireAfter, serverFireWhen, serve, leap}
 use Rattle.model.specs.Kinds.{Chain, ByTicks, ByDate, Mode, After, When, Every, ServerAfter, ServerWhen, chainFor, isPeriodic, isServer, sameChain, intervalIn}
 use Rattle.model.specs.State.{Fired}
 
@@ -83,6 +83,8 @@ eventOf before initiateServer = initiates
 eventOf before (serverFireAfter id n r u) = changes id (some (startOf id ServerAfter n r u))
 eventOf before (serverFireWhen id w r u) = changes id (some (startOf id ServerWhen (secondsOf w) r u))
 eventOf before (serve list) = servesFront
+-- (a leap comes here as its ticks: `singly` of Demand)
+eventOf before (leap k list) = nothing
 
 -- the events of accepted calls, made after the events `before`
 abbrev pub eventsOn : List Event → List Call → List Event
@@ -110,6 +112,7 @@ lastsAfter initiateServer answer id before = before
 lastsAfter (serverFireAfter i n r u) answer id before = before
 lastsAfter (serverFireWhen i w r u) answer id before = before
 lastsAfter (serve list) answer id before = before
+lastsAfter (leap k list) answer id before = before
 
 -- ---- the clock
 

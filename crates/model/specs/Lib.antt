@@ -10,3 +10,4 @@ pub mod Outcome
 pub mod History
 pub mod Demand
 pub mod NextDue
+pub mod Leap

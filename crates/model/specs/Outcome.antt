@@ -29,7 +29,7 @@ outcomeOf status answer table list = record { status = status; answer = answer; 
 unfoldable pub statusOn : List ℕ → Call → ℕ
 statusOn t c = firstOf (refusals t (read t) c)
 
--- Each refusal answers 0 besides (get clock: seven zeros) and leaves table and list alike untouched.
+-- Each refusal answers 0 besides (get clock: seven zeros, leap two) and leaves table and list alike untouched.
 abbrev pub refused : ℕ → List ℕ → Call → Outcome
 refused status t c = outcomeOf status (replicate (answerCount c) 0) t (lentTo c)
 

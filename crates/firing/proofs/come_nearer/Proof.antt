@@ -1,4 +1,4 @@
--- `firing::come_nearer` meets its contract: there is no interval timer, or the first one's wait falls by one. Assumes nothing.
+-- `firing::come_nearer` meets its contract: there is no interval timer, or the first one's wait falls. Assumes nothing.
 use mathlib.Core.Path.{refl, ap, _∙_}
 use Prim.Native.Nat.{ℕ, _+_, _-_, _*_}
 use native.Mathlib.Omega.{arith}
@@ -7,14 +7,13 @@ use borrow.Author.Needs.{needs}
 use Rattle.model.specs.declared.Chain.the-variants.{ByTicks}
 use Rattle.model.specs.Words.{read, firstTicking}
 use Rattle.model.proofs.WellFormed.{Holds}
-use Rattle.model.proofs.SoundHolds.{sound-holds}
 use Rattle.firing.proofs.Heads.{Front, front}
 use Rattle.firing.proofs.Nearer.{nearer-none, first-waits, nearer-some}
 use Rattle.firing.proofs.come_nearer.Statement.{statement}
 use Rattle.firing.proofs.come_nearer.Tie as tie
 
 holds : (c : tie.Start) → Holds (c .args .t .now) (read (c .args .t .now))
-holds c = sound-holds (c .args .t .now) (c .pre)
+holds c = c .pre .holds
 
 -- there is a first interval timer
 first : (c : tie.Then1) → let t = c .before .before .before .args .t .now in Front ByTicks t (firstTicking t)
@@ -30,7 +29,7 @@ sub-put : tie.Need-sub-put
 sub-put c =
     let some = c .before .before .before in
     let entry = some .before .before .before in
-    omega (arith, c .before .get .ensures, first-waits (entry .args .t .now) (entry .pre) (first some))
+    omega (arith, c .before .get .ensures, first-waits (entry .args .t .now) (entry .args .ticks) (entry .pre) (first some))
 
 put-requires : tie.Need-put-requires
 put-requires c κs =
@@ -44,11 +43,11 @@ returns c =
     let some = c .before .before .before .before .before .before in
     let entry = some .before .before .before in
     let t = entry .args .t .now in
-    nearer-some t (entry .pre) (first some)
-    (c .before .before .put .ensures ∙ ap (λ (w : ℕ). set t (2 + 8 * firstTicking t + 3) (w - 1)) (c .before .before .before .before .get .ensures))
+    nearer-some t (entry .args .ticks) (entry .pre) (first some)
+    (c .before .before .put .ensures ∙ ap (λ (w : ℕ). set t (2 + 8 * firstTicking t + 3) (w - entry .args .ticks)) (c .before .before .before .before .get .ensures))
 
 returns-2 : tie.Need-returns-2
-returns-2 c = let entry = c .before .before .before in nearer-none (entry .args .t .now) (entry .pre) (c .if1 .left)
+returns-2 c = let entry = c .before .before .before in nearer-none (entry .args .t .now) (entry .args .ticks) (entry .pre) (c .if1 .left)
 
 pub come-nearer-spec : {M : Type 1} → statement M
 come-nearer-spec =

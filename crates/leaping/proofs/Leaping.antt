@@ -1,0 +1,93 @@
+-- A leap on the words of a table: the ticks in which no timer is due, at once, leave a sound table, and one tick from there leaves what the leap does.
+-- Assumes nothing.
+use mathlib.Core.Path.{_≡_, refl, sym, ap, ap₂, _∙_, subst}
+use mathlib.Core.Logic.{_≢_}
+use Prim.Native.Nat.{ℕ, _-_, _≤_}
+use native.Mathlib.Omega.{arith}
+use mathlib.Core.List.{List, map, head-eq-of-cons-eq}
+use lib.ListN.{length}
+use Rattle.model.specs.Lists.{All}
+use Rattle.model.specs.State.{State, listed}
+use Rattle.model.specs.Directives.{mostLeap, clockStep, ticked, Leapt, leapt}
+use Rattle.model.specs.Words.{read, writtenOver}
+use Rattle.model.specs.Outcome.{written}
+use Rattle.model.proofs.ListLaws.{all-map}
+use Rattle.model.proofs.WellFormed.{WellFormed, Holds}
+use Rattle.model.proofs.ReadBack.{slots-length, read-back, over-over, over-holds}
+use Rattle.model.proofs.SoundHolds.{sound-holds, sound-well-formed}
+use Rattle.model.proofs.HoldsSound.{well-formed-sound}
+use Rattle.model.proofs.KeptWellFormed.{tick-slots}
+use Rattle.links.specs.Places.{lastSlot}
+use Rattle.firing.specs.Lists.{Leaves}
+use Rattle.firing.proofs.Ticks.{tickedTo}
+use Rattle.leaping.specs.Leaps.{skipped, untilDue, Ready, LeapLeaves}
+use Rattle.leaping.proofs.Until.{Until, until-due, skips-well-formed, leaps-at-once}
+
+-- a tick fires at no ticks left, and up to the second that the clock has come to
+pub tick-is : (t list : List ℕ) {limit second m : ℕ} {u list′ : List ℕ} → second ≡ clockStep (read t .clock) .second
+    → Leaves t list (tickedTo limit second (read t)) m u list′ → limit ≡ 0 → Leaves t list (ticked (read t)) m u list′
+tick-is t list {limit} {second} {m} {u} {list′} e l at =
+    let first = subst (λ (d : ℕ). Leaves t list (tickedTo d second (read t)) m u list′) at l in
+    subst (λ (d : ℕ). Leaves t list (tickedTo 0 d (read t)) m u list′) e first
+
+module _ (t list : List ℕ) {end : ℕ} (r : Ready t list end) (k : ℕ) where
+  -- a leap of none
+  pub none-done : k ≡ 0 → LeapLeaves t list k 0 0 t list
+  none-done e =
+      let l = ap (λ (n : ℕ). leapt n (read t)) (sym e) in
+      record {
+        table = sym (sound-holds t (r .ok) .is) ∙ ap (λ (x : Leapt). writtenOver (x .state) t) l;
+        fired = ap (λ (x : Leapt). length (x .fired)) l;
+        ticks = ap (λ (x : Leapt). x .done) l;
+        entries = ap (λ (x : Leapt). written (map (listed (read t .slots)) (x .fired)) list) l;
+      }
+
+  module _ (few : k ≤ mostLeap) (some : k ≢ 0) {d : ℕ} (is : d ≡ untilDue k (read t)) where
+    abbrev s : State
+    s = read t
+
+    -- no timer is due before the last of d ticks
+    until : Until k d s
+    until = subst (λ (n : ℕ). Until k n s) (sym is) (until-due k (omega (arith, some)) s (sound-well-formed t (r .ok)))
+
+    pub done-low : 1 ≤ d
+    done-low = until .low
+
+    pub skip-few : d - 1 ≤ mostLeap
+    skip-few = omega (arith, until .high)
+
+    pub skip-far : All (λ w. d - 1 ≤ w .wait) (s .ticking)
+    skip-far = all-map (λ w p. omega arith) (s .ticking) (until .ticks)
+
+    -- the table after the others
+    module _ {u : List ℕ} (e : u ≡ writtenOver (skipped (d - 1) s) t) where
+      abbrev s′ : State
+      s′ = skipped (d - 1) s
+
+      formed : WellFormed s′
+      formed = skips-well-formed k d s until (sound-well-formed t (r .ok))
+
+      holds : Holds u s′
+      holds = subst (λ (w : List ℕ). Holds w s′) (sym e) (over-holds t s s′ (sound-holds t (r .ok)) (formed .chained) refl)
+
+      here : read u ≡ s′
+      here = read-back u s′ holds
+
+      pub skipped-ready : Ready u list end
+      skipped-ready = record {
+        ok = well-formed-sound u s′ holds formed;
+        long = omega (arith, ap (λ (z : State). length (z .slots)) here, slots-length u, slots-length t, r .long);
+        last = r .last ∙ ap (λ (z : State). lastSlot 0 (z .queue)) (sym here);
+      }
+
+      pub leap-done : {m : ℕ} {v list′ : List ℕ} → Leaves u list (ticked (read u)) m v list′ → LeapLeaves t list k m d v list′
+      leap-done {m} {v} {list′} l =
+          let whole = sym (leaps-at-once k d s until) in
+          record {
+            table = l .table ∙ ap₂ (λ (z : State) (w : List ℕ). writtenOver (ticked z .state) w) here e
+                ∙ over-over s′ (ticked s′ .state) t (tick-slots s′) ∙ ap (λ (x : Leapt). writtenOver (x .state) t) whole;
+            fired = head-eq-of-cons-eq (l .answer) ∙ ap (λ (z : State). length (ticked z .fired)) here ∙ ap (λ (x : Leapt). length (x .fired)) whole;
+            ticks = ap (λ (x : Leapt). x .done) whole;
+            entries = l .entries ∙ ap (λ (z : State). written (map (listed (z .slots)) (ticked z .fired)) list) here
+                ∙ ap (λ (x : Leapt). written (map (listed (s .slots)) (x .fired)) list) whole;
+          }
