@@ -1,8 +1,8 @@
--- A leap on the words of a table: the ticks in which no timer is due, at once, leave a sound table, and one tick from there leaves what the leap does.
+-- A leap on the words of a table: the ticks in which no timer is due, at once, leave what the leap does where none is due at all; else they leave a sound
+-- table, and one tick from there leaves what the leap does.
 -- Assumes nothing.
 use mathlib.Core.Path.{_≡_, refl, sym, ap, ap₂, _∙_, subst}
-use mathlib.Core.Logic.{_≢_}
-use Prim.Native.Nat.{ℕ, _-_, _≤_}
+use Prim.Native.Nat.{ℕ, _+_, _-_, _≤_, _<_}
 use native.Mathlib.Omega.{arith}
 use mathlib.Core.List.{List, map, head-eq-of-cons-eq}
 use lib.ListN.{length}
@@ -21,7 +21,7 @@ use Rattle.links.specs.Places.{lastSlot}
 use Rattle.firing.specs.Lists.{Leaves}
 use Rattle.firing.proofs.Ticks.{tickedTo}
 use Rattle.leaping.specs.Leaps.{skipped, untilDue, Ready, LeapLeaves}
-use Rattle.leaping.proofs.Until.{Until, until-due, skips-well-formed, leaps-at-once}
+use Rattle.leaping.proofs.Until.{Until, until-due, skips-well-formed, leaps-at-once, leap-is-jump, sooner}
 
 -- a tick fires at no ticks left, and up to the second that the clock has come to
 pub tick-is : (t list : List ℕ) {limit second m : ℕ} {u list′ : List ℕ} → second ≡ clockStep (read t .clock) .second
@@ -30,25 +30,34 @@ tick-is t list {limit} {second} {m} {u} {list′} e l at =
     let first = subst (λ (d : ℕ). Leaves t list (tickedTo d second (read t)) m u list′) at l in
     subst (λ (d : ℕ). Leaves t list (tickedTo 0 d (read t)) m u list′) e first
 
-module _ (t list : List ℕ) {end : ℕ} (r : Ready t list end) (k : ℕ) where
-  -- a leap of none
-  pub none-done : k ≡ 0 → LeapLeaves t list k 0 0 t list
-  none-done e =
-      let l = ap (λ (n : ℕ). leapt n (read t)) (sym e) in
-      record {
-        table = sym (sound-holds t (r .ok) .is) ∙ ap (λ (x : Leapt). writtenOver (x .state) t) l;
-        fired = ap (λ (x : Leapt). length (x .fired)) l;
-        ticks = ap (λ (x : Leapt). x .done) l;
-        entries = ap (λ (x : Leapt). written (map (listed (read t .slots)) (x .fired)) list) l;
-      }
+module _ (t list : List ℕ) {end : ℕ} (r : Ready t list end) (k : ℕ) (few : k ≤ mostLeap) {d : ℕ} (is : d ≡ untilDue (k + 1) (read t)) where
+  abbrev s : State
+  s = read t
 
-  module _ (few : k ≤ mostLeap) (some : k ≢ 0) {d : ℕ} (is : d ≡ untilDue k (read t)) where
-    abbrev s : State
-    s = read t
+  -- no timer is due before the last of d ticks
+  beyond : Until (k + 1) d s
+  beyond = subst (λ (n : ℕ). Until (k + 1) n s) (sym is) (until-due (k + 1) (omega arith) s (sound-well-formed t (r .ok)))
 
-    -- no timer is due before the last of d ticks
+  -- ---- none is due in k ticks
+  module _ (none : k < d) where
+    pub jump-far : All (λ w. k ≤ w .wait) (s .ticking)
+    jump-far = all-map (λ w p. omega arith) (s .ticking) (beyond .ticks)
+
+    pub jump-done : {u : List ℕ} → u ≡ writtenOver (skipped k s) t → LeapLeaves t list k 0 k u list
+    jump-done {u} e =
+        let next : d ≡ k + 1 = omega (arith, beyond .high) in
+        let whole = sym (leap-is-jump k s (subst (λ (n : ℕ). Until (k + 1) n s) next beyond)) in
+        record {
+          table = e ∙ ap (λ (x : Leapt). writtenOver (x .state) t) whole;
+          fired = ap (λ (x : Leapt). length (x .fired)) whole;
+          ticks = ap (λ (x : Leapt). x .done) whole;
+          entries = ap (λ (x : Leapt). written (map (listed (s .slots)) (x .fired)) list) whole;
+        }
+
+  -- ---- one is due in the last of d ticks
+  module _ (some : d ≤ k) where
     until : Until k d s
-    until = subst (λ (n : ℕ). Until k n s) (sym is) (until-due k (omega (arith, some)) s (sound-well-formed t (r .ok)))
+    until = sooner k d s beyond some
 
     pub done-low : 1 ≤ d
     done-low = until .low

@@ -212,6 +212,20 @@ module _ (k d : ℕ) (s : State) (u : Until k d s) where
       ∙ ap (further (d - 1)) (one-tick j s′ (λ p. u .stops (omega arith)))
       ∙ ap (λ (n : ℕ). record { state = tickedOnce s′; done = n; fired = withoutServer (s .slots) (dueInTick s′) }) total
 
+-- no timer is due in k ticks: a leap by k is the jump over them
+pub leap-is-jump : (k : ℕ) (s : State) → Until (k + 1) (k + 1) s → leapt k s ≡ record { state = skipped k s; done = k; fired = [] }
+leap-is-jump k s u =
+    let all : k + 1 - 1 ≡ k = omega arith in
+    let ticks : All (λ w. k < w .wait) (s .ticking) = all-map (λ w p. omega arith) (s .ticking) (u .ticks) in
+    let dates : All (λ w. clockOn k (s .clock) .second < w .wait) (s .dated) =
+    subst (λ (n : ℕ). All (λ w. clockOn n (s .clock) .second < w .wait) (s .dated)) all (u .dates) in
+    let total : k + 0 ≡ k = omega arith in
+    ap (λ (n : ℕ). leapt n s) (sym total) ∙ leapt-skips k 0 s ticks dates ∙ ap (λ (n : ℕ). record { state = skipped k s; done = n; fired = [] }) total
+
+-- one is due in k ticks, where the first that is due is before the next
+pub sooner : (k d : ℕ) (s : State) → Until (k + 1) d s → d ≤ k → Until k d s
+sooner k d s u h = record { low = u .low; high = h; ticks = u .ticks; dates = u .dates; stops = λ p. u .stops (omega arith) }
+
 -- The law of the code: on a well-formed state a leap by k, if that is not 0, is the jump over all ticks but the last, and one tick; whatever kinds of
 -- timers there are.
 pub leap-is-jump-and-tick : (k : ℕ) → 1 ≤ k → (s : State) → WellFormed s → let d = untilDue k s in let s′ = skipped (d - 1) s in

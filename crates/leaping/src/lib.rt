@@ -1,5 +1,5 @@
 // Ticks on a sound table: one, and a leap by many. A leap costs one tick however long it is: those in which no timer is due are gone over at once,
-// and the last one is a tick.
+// and one in which a timer is due is a tick.
 ghost use mathlib.Core.Path.{_≡_};
 ghost use mathlib.Core.Bool.{true};
 ghost use Prim.Native.Nat.{_-_, _*_, _<_, _≤_};
@@ -139,10 +139,14 @@ pub fn leap(t: &mut [u32], most: u32, list: &mut [u32], end: u32) -> Gone
     requires { ⌜ Ready (now t) (now list) end × (most ≤ mostLeap) ⌝ }
     ensures { λ r. ⌜ LeapLeaves (now (t .entry)) (now (list .entry)) most (r .count) (r .done) (now (t .exit)) (now (list .exit)) ⌝ }
 {
-    if most == 0 {
-        return Gone { count: 0, done: 0 };
+    let ticks = until_due(t, most + 1);
+    if most < ticks {
+        skip(t, most);
+        return Gone {
+            count: 0,
+            done: most,
+        };
     }
-    let ticks = until_due(t, most);
     skip(t, ticks - 1);
     let fired = tick(t, list, end);
     Gone {
