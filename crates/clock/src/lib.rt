@@ -1,5 +1,5 @@
-// The clock: a tick, a leap, set clock and get clock. Their contracts are as those of crate `timer`, set clock's with a second equation; `readingStatus` and `readingAnswer`
-// (answers/specs/Answers.antt) say what get clock's answer is in document 01's numbers.
+// The clock: a tick, a leap, set clock and get clock. Their contracts are as those of crate `timer`, set clock's with a second equation, leap's with a second
+// number; `readingStatus` and `readingAnswer` (answers/specs/Answers.antt) say what get clock's answer is in document 01's numbers.
 ghost use mathlib.Core.Path.{_≡_};
 ghost use mathlib.Core.Bool.{true};
 ghost use mathlib.Core.List.{[], _∷_, _++_};

@@ -20,7 +20,8 @@ use table::TICKS_PER_SECOND;
 use timer::*;
 
 // The calls, numbered as in `model`; their arguments come in its order. A wall time is two words: 20000229 235959 is the last second of
-// 2000-02-29; set clock has its ticks as a third, 0 where it is left out. Serve has the word from which on it is lent the list: 6 lends it three words of the nine, 7 two, 9 none.
+// 2000-02-29; set clock has its ticks as a third, 0 where it is left out. Serve has the word from which on it is lent the list: 6 lends it three
+// words of the nine, 7 two, 9 none.
 const LAY_OUT: u32 = 1;
 
 const CREATE: u32 = 2;

@@ -60,7 +60,7 @@ fn run_clock(t: &mut [u32], ticks: u32)
 }
 
 // Ticks in which no timer is due, at once: all interval timers come so many ticks nearer, and the clock goes on.
-pub fn skip(t: &mut [u32], ticks: u32)
+fn skip(t: &mut [u32], ticks: u32)
     requires { ⌜ (sound (now t) ≡ true) × (ticks ≤ mostLeap) × All (λ w. ticks ≤ w .wait) (read (now t) .ticking) ⌝ }
     ensures { λ _. ⌜ now (t .exit) ≡ writtenOver (skipped ticks (read (now (t .entry)))) (now (t .entry)) ⌝ }
 {
@@ -117,7 +117,7 @@ fn until_date(t: &[u32], most: u32) -> u32
 }
 
 // The ticks until some timer is due, or `most` if they are no fewer.
-pub fn until_due(t: &[u32], most: u32) -> u32
+fn until_due(t: &[u32], most: u32) -> u32
     requires { ⌜ sound (now t) ≡ true ⌝ }
     ensures { λ r. ⌜ r ≡ untilDue most (read (now (t .entry))) ⌝ }
 {

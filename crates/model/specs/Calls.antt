@@ -1,4 +1,5 @@
--- The calls with their arguments, in document 01's order, document 02's beside those that they are like or behind them. A list that is lent to a call comes with its words.
+-- The calls with their arguments, in document 01's order, document 02's beside those that they are like or behind them. A list that is lent to a call
+-- comes with its words.
 -- Assumes nothing: these are definitions.
 use Prim.Native.Nat.{ℕ}
 use mathlib.Core.Bool.{Bool, cond}
