@@ -33,6 +33,7 @@ pub mod SingleCalls
 pub mod ClockReadings
 pub mod CallTables
 pub mod Lasting
+pub mod NextDueRules
 pub mod NextDue
 pub mod ListWords
 pub mod LeapWords
