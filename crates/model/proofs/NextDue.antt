@@ -1,5 +1,6 @@
 -- What next due answers. On a sound table the slot in word 5 is the first of the interval chain, along which ticks left never fall, so what is read there
--- is the least ticks left over all waiting interval timers, of the table's slots and of the history's starts. Assumes nothing.
+-- is the least ticks left over all waiting interval timers, of the table's slots and of the history's starts. (Its rules are
+-- computed first, in `NextDueRules`, so that a wrong one is refused there.) Assumes nothing.
 use mathlib.Core.Path.{_≡_, refl, sym, ap, ap₂, _∙_, subst}
 use Prim.Native.Nat.{ℕ, zero, suc, _+_, _-_, _*_, _≤_, _<_}
 use native.Mathlib.Omega.{arith}
@@ -19,6 +20,7 @@ use Rattle.model.specs.Directives.{firstTests, firstWait, firedAll, goOn
 use Rattle.model.specs.Outcome.{Outcome, outcomeOf, statusOn, outcome}
 use Rattle.model.specs.Demand.{firstNumber}
 use Rattle.model.specs.NextDue.{slotsUp, waitingForTicks, ticksLeftOf, NextDueIsLeast, SameFirst, NextDueReadsOneSlot}
+use Rattle.model.proofs.NextDueRules.{by-size}
 use Rattle.model.proofs.ListLaws.{cases, clash, or-else, or-left, or-right, all-at, all-true, all-map, all-keep, all-passed, all-zip, all-mapped, keep-all, keep-none}
 use Rattle.model.proofs.Order.{orderOn, order}
 use Rattle.model.proofs.WellFormed.{timesIn}
