@@ -74,7 +74,7 @@ static inline bool header_sound(const uint32_t *table, size_t words)
         return false;
     if (table[CLOCK_TICKS] >= table[TICKS_PER_SECOND])
         return false;
-    if (table[ZERO] != 0)
+    if (table[SPLIT] >= table[SLOTS])
         return false;
     if (table[FIRST_TICKING] != 0 && table[FIRST_TICKING] == table[FIRST_DATED])
         return false;
@@ -213,22 +213,52 @@ static inline bool sound(const uint32_t *table, size_t words)
     return check(table, words) != NOT_SOUND;
 }
 
-/* The slot of the timer that the id names; 0 if it names none. */
-static inline uint32_t named(const uint32_t *table, uint32_t id)
+/* Slots of a party: the first, and how many. */
+struct own {
+    uint32_t first, count;
+};
+
+/* Those that the party has; none where there is no such party. */
+static inline struct own own_slots(const uint32_t *table, uint32_t party)
+{
+    uint32_t split = table[SPLIT];
+    if (party == 1)
+        return (struct own){1, split == 0 ? table[SLOTS] : split};
+    if (party == 2 && split != 0)
+        return (struct own){split + 1, table[SLOTS] - split};
+    return (struct own){1, 0};
+}
+
+static inline bool owns(struct own own, uint32_t index)
+{
+    return index - own.first < own.count;
+}
+
+/* The slot of the timer of these that the id names; 0 if it names none. */
+static inline uint32_t named(const uint32_t *table, struct own own, uint32_t id)
 {
     uint32_t index = id - ID_BASE;
-    if (index - 1 >= table[SLOTS])
+    if (!owns(own, index))
         return 0;
     return slot_of(table, index)[KIND] == FREE ? 0 : index;
 }
 
-/* The lowest slot whose word is this; 0 if there is none. */
-static inline uint32_t lowest(const uint32_t *table, int word, uint32_t value)
+/* The lowest slot of these whose word is this; 0 if there is none. */
+static inline uint32_t lowest(const uint32_t *table, struct own own, int word, uint32_t value)
 {
-    for (uint32_t i = 1; i <= table[SLOTS]; i++)
+    for (uint32_t i = own.first; i < own.first + own.count; i++)
         if (slot_of(table, i)[word] == value)
             return i;
     return 0;
+}
+
+/* The first queued timer of these slots; 0 if there is none. */
+static inline uint32_t first_queued(const uint32_t *table, struct own own)
+{
+    uint32_t index = table[FIRST_QUEUED];
+    while (index && !owns(own, index))
+        index = slot_of(table, index)[NEXT];
+    return index;
 }
 
 static inline uint32_t is_leap(uint32_t year)
@@ -433,28 +463,34 @@ static inline int64_t moved_by(const uint32_t *table, uint32_t seconds, uint32_t
     return further * table[TICKS_PER_SECOND] + ticks - table[CLOCK_TICKS];
 }
 
-uint32_t CALL(lay_out)(uint32_t *table, size_t words, uint32_t slots, uint32_t ticks_per_second)
+uint32_t CALL(lay_out)(uint32_t *table, size_t words, uint32_t slots, uint32_t ticks_per_second, uint32_t split)
 {
     if (slots < 1 || slots > MAX_SLOTS)
         return HC_INVALID_NUMBER;
     if (ticks_per_second < 1 || ticks_per_second > MAX_TICKS_PER_SECOND)
+        return HC_INVALID_NUMBER;
+    if (split >= slots)
         return HC_INVALID_NUMBER;
     if (words < HEADER_WORDS + SLOT_WORDS * slots)
         return HC_INVALID_SIZE;
     memset(table, 0, (HEADER_WORDS + SLOT_WORDS * slots) * sizeof *table);
     table[SLOTS] = slots;
     table[TICKS_PER_SECOND] = ticks_per_second;
+    table[SPLIT] = split;
     return HC_SUCCESSFUL;
 }
 
-uint32_t CALL(create)(uint32_t *table, size_t words, uint32_t name, uint32_t *id)
+uint32_t CALL(create)(uint32_t *table, size_t words, uint32_t party, uint32_t name, uint32_t *id)
 {
     *id = 0;
     if (!sound(table, words))
         return HC_NOT_SOUND;
+    struct own own = own_slots(table, party);
+    if (own.count == 0)
+        return HC_INVALID_ID;
     if (name == 0)
         return HC_INVALID_NAME;
-    uint32_t index = lowest(table, KIND, FREE);
+    uint32_t index = lowest(table, own, KIND, FREE);
     if (index == 0)
         return HC_TOO_MANY;
     slot(table, index)[KIND] = NEVER_STARTED;
@@ -463,25 +499,28 @@ uint32_t CALL(create)(uint32_t *table, size_t words, uint32_t name, uint32_t *id
     return HC_SUCCESSFUL;
 }
 
-uint32_t CALL(ident)(const uint32_t *table, size_t words, uint32_t name, uint32_t *id)
+uint32_t CALL(ident)(const uint32_t *table, size_t words, uint32_t party, uint32_t name, uint32_t *id)
 {
     *id = 0;
     if (!sound(table, words))
         return HC_NOT_SOUND;
+    struct own own = own_slots(table, party);
+    if (own.count == 0)
+        return HC_INVALID_ID;
     if (name == 0)
         return HC_INVALID_NAME;
-    uint32_t index = lowest(table, NAME, name);
+    uint32_t index = lowest(table, own, NAME, name);
     if (index == 0)
         return HC_INVALID_NAME;
     *id = ID_BASE + index;
     return HC_SUCCESSFUL;
 }
 
-uint32_t CALL(cancel)(uint32_t *table, size_t words, uint32_t id)
+uint32_t CALL(cancel)(uint32_t *table, size_t words, uint32_t party, uint32_t id)
 {
     if (!sound(table, words))
         return HC_NOT_SOUND;
-    uint32_t index = named(table, id);
+    uint32_t index = named(table, own_slots(table, party), id);
     if (index == 0)
         return HC_INVALID_ID;
     if (!stop(table, index))
@@ -489,11 +528,11 @@ uint32_t CALL(cancel)(uint32_t *table, size_t words, uint32_t id)
     return HC_SUCCESSFUL;
 }
 
-uint32_t CALL(delete)(uint32_t *table, size_t words, uint32_t id)
+uint32_t CALL(delete)(uint32_t *table, size_t words, uint32_t party, uint32_t id)
 {
     if (!sound(table, words))
         return HC_NOT_SOUND;
-    uint32_t index = named(table, id);
+    uint32_t index = named(table, own_slots(table, party), id);
     if (index == 0)
         return HC_INVALID_ID;
     stop(table, index);
@@ -502,18 +541,21 @@ uint32_t CALL(delete)(uint32_t *table, size_t words, uint32_t id)
 }
 
 /* Fire after, fire every or server fire after, by the kind of timer that waits then. */
-static inline uint32_t fire_ticks(uint32_t *table, size_t words, uint32_t id, uint32_t kind, uint32_t ticks,
+static inline uint32_t fire_ticks(uint32_t *table, size_t words, uint32_t party, uint32_t id, uint32_t kind, uint32_t ticks,
                                   uint32_t routine, uint32_t data)
 {
     if (!sound(table, words))
         return HC_NOT_SOUND;
+    struct own own = own_slots(table, party);
+    if (own.count == 0)
+        return HC_INVALID_ID;
     if (kind == SERVER_TICKING && !table[SERVER])
         return HC_INCORRECT_STATE;
     if (ticks == 0)
         return HC_INVALID_NUMBER;
     if (routine == 0)
         return HC_INVALID_ADDRESS;
-    uint32_t index = named(table, id);
+    uint32_t index = named(table, own, id);
     if (index == 0)
         return HC_INVALID_ID;
     stop(table, index);
@@ -524,11 +566,14 @@ static inline uint32_t fire_ticks(uint32_t *table, size_t words, uint32_t id, ui
 }
 
 /* Fire when or server fire when. */
-static inline uint32_t fire_date(uint32_t *table, size_t words, uint32_t id, uint32_t kind, const struct hc_wall_time *when,
-                                 uint32_t routine, uint32_t data)
+static inline uint32_t fire_date(uint32_t *table, size_t words, uint32_t party, uint32_t id, uint32_t kind,
+                                 const struct hc_wall_time *when, uint32_t routine, uint32_t data)
 {
     if (!sound(table, words))
         return HC_NOT_SOUND;
+    struct own own = own_slots(table, party);
+    if (own.count == 0)
+        return HC_INVALID_ID;
     if (kind == SERVER_DATED && !table[SERVER])
         return HC_INCORRECT_STATE;
     if (!table[CLOCK_SET])
@@ -540,7 +585,7 @@ static inline uint32_t fire_date(uint32_t *table, size_t words, uint32_t id, uin
     uint32_t date = seconds_of(when);
     if (date <= table[SECONDS])
         return HC_INVALID_CLOCK;
-    uint32_t index = named(table, id);
+    uint32_t index = named(table, own, id);
     if (index == 0)
         return HC_INVALID_ID;
     stop(table, index);
@@ -550,27 +595,29 @@ static inline uint32_t fire_date(uint32_t *table, size_t words, uint32_t id, uin
     return HC_SUCCESSFUL;
 }
 
-uint32_t CALL(fire_after)(uint32_t *table, size_t words, uint32_t id, uint32_t ticks, uint32_t routine, uint32_t data)
+uint32_t CALL(fire_after)(uint32_t *table, size_t words, uint32_t party, uint32_t id, uint32_t ticks, uint32_t routine,
+                          uint32_t data)
 {
-    return fire_ticks(table, words, id, TICKING, ticks, routine, data);
+    return fire_ticks(table, words, party, id, TICKING, ticks, routine, data);
 }
 
-uint32_t CALL(fire_when)(uint32_t *table, size_t words, uint32_t id, const struct hc_wall_time *when, uint32_t routine,
-                         uint32_t data)
+uint32_t CALL(fire_when)(uint32_t *table, size_t words, uint32_t party, uint32_t id, const struct hc_wall_time *when,
+                         uint32_t routine, uint32_t data)
 {
-    return fire_date(table, words, id, DATED, when, routine, data);
+    return fire_date(table, words, party, id, DATED, when, routine, data);
 }
 
-uint32_t CALL(fire_every)(uint32_t *table, size_t words, uint32_t id, uint32_t ticks, uint32_t routine, uint32_t data)
+uint32_t CALL(fire_every)(uint32_t *table, size_t words, uint32_t party, uint32_t id, uint32_t ticks, uint32_t routine,
+                          uint32_t data)
 {
-    return fire_ticks(table, words, id, PERIODIC, ticks, routine, data);
+    return fire_ticks(table, words, party, id, PERIODIC, ticks, routine, data);
 }
 
-uint32_t CALL(reset)(uint32_t *table, size_t words, uint32_t id)
+uint32_t CALL(reset)(uint32_t *table, size_t words, uint32_t party, uint32_t id)
 {
     if (!sound(table, words))
         return HC_NOT_SOUND;
-    uint32_t index = named(table, id);
+    uint32_t index = named(table, own_slots(table, party), id);
     if (index == 0)
         return HC_INVALID_ID;
     uint32_t kind = restarted[slot(table, index)[KIND]];
@@ -581,12 +628,12 @@ uint32_t CALL(reset)(uint32_t *table, size_t words, uint32_t id)
     return HC_SUCCESSFUL;
 }
 
-uint32_t CALL(ticks_left)(const uint32_t *table, size_t words, uint32_t id, uint32_t *ticks)
+uint32_t CALL(ticks_left)(const uint32_t *table, size_t words, uint32_t party, uint32_t id, uint32_t *ticks)
 {
     *ticks = 0;
     if (!sound(table, words))
         return HC_NOT_SOUND;
-    uint32_t index = named(table, id);
+    uint32_t index = named(table, own_slots(table, party), id);
     if (index == 0)
         return HC_INVALID_ID;
     if (chain_of[slot_of(table, index)[KIND]] != FIRST_TICKING)
@@ -700,27 +747,31 @@ uint32_t CALL(initiate_server)(uint32_t *table, size_t words)
     return HC_SUCCESSFUL;
 }
 
-uint32_t CALL(server_fire_after)(uint32_t *table, size_t words, uint32_t id, uint32_t ticks, uint32_t routine, uint32_t data)
+uint32_t CALL(server_fire_after)(uint32_t *table, size_t words, uint32_t party, uint32_t id, uint32_t ticks, uint32_t routine,
+                                 uint32_t data)
 {
-    return fire_ticks(table, words, id, SERVER_TICKING, ticks, routine, data);
+    return fire_ticks(table, words, party, id, SERVER_TICKING, ticks, routine, data);
 }
 
-uint32_t CALL(server_fire_when)(uint32_t *table, size_t words, uint32_t id, const struct hc_wall_time *when,
+uint32_t CALL(server_fire_when)(uint32_t *table, size_t words, uint32_t party, uint32_t id, const struct hc_wall_time *when,
                                 uint32_t routine, uint32_t data)
 {
-    return fire_date(table, words, id, SERVER_DATED, when, routine, data);
+    return fire_date(table, words, party, id, SERVER_DATED, when, routine, data);
 }
 
-uint32_t CALL(serve)(uint32_t *table, size_t words, uint32_t *served, size_t served_words, uint32_t *count)
+uint32_t CALL(serve)(uint32_t *table, size_t words, uint32_t party, uint32_t *served, size_t served_words, uint32_t *count)
 {
     *count = 0;
     if (!sound(table, words))
         return HC_NOT_SOUND;
     if (served_words < HC_SERVED_WORDS)
         return HC_LIST_TOO_SHORT;
+    struct own own = own_slots(table, party);
+    if (own.count == 0)
+        return HC_INVALID_ID;
     if (!table[SERVER])
         return HC_INCORRECT_STATE;
-    uint32_t index = table[FIRST_QUEUED];
+    uint32_t index = first_queued(table, own);
     if (index == 0)
         return HC_SUCCESSFUL;
     write_entry(served, index, slot(table, index));
@@ -787,6 +838,52 @@ uint32_t CALL(leap)(uint32_t *table, size_t words, uint32_t ticks, uint32_t *fir
     *done = (uint32_t)due;
     *count = table[SERVER] ? pass_server_tick(table, last_queued, fired) : pass_tick(table, false, 0, fired);
     return HC_SUCCESSFUL;
+}
+
+/* ---- Delays in seconds ---- */
+
+/* The bits of a double: where its exponent begins; how many places the point stands to the left where the exponent is 0 or 1;
+ * and the bits of 2^32, above which lie all that are too large, infinite, not a number or below zero. */
+enum { DIGIT_BITS = 52, LEAST_PLACE = 1074 };
+#define BITS_OF_2_32 UINT64_C(0x41f0000000000000)
+
+/* The product of digits and T has at most 63 bits: where the point stands further to the left, it is less than a tick. */
+uint32_t CALL(seconds_to_ticks)(double seconds, uint32_t ticks_per_second, uint32_t *ticks)
+{
+    uint64_t bits;
+    memcpy(&bits, &seconds, sizeof bits);
+    *ticks = 0;
+    if (ticks_per_second - 1 >= MAX_TICKS_PER_SECOND)
+        return HC_INVALID_NUMBER;
+    if (bits << 1 == 0)
+        return HC_SUCCESSFUL;
+    if (bits >= BITS_OF_2_32)
+        return HC_INVALID_NUMBER;
+    uint64_t digits = bits & ((UINT64_C(1) << DIGIT_BITS) - 1);
+    uint32_t places = LEAST_PLACE, exponent = (uint32_t)(bits >> DIGIT_BITS);
+    if (exponent != 0) {
+        digits |= UINT64_C(1) << DIGIT_BITS;
+        places -= exponent - 1;
+    }
+    if (places > 63) {
+        *ticks = 1;
+        return HC_SUCCESSFUL;
+    }
+    uint64_t whole = ((digits * ticks_per_second - 1) >> places) + 1;
+    if (whole > UINT32_MAX)
+        return HC_INVALID_NUMBER;
+    *ticks = (uint32_t)whole;
+    return HC_SUCCESSFUL;
+}
+
+/* Seconds that are refused are 0 ticks, which fire after refuses alike. */
+uint32_t CALL(fire_after_seconds)(uint32_t *table, size_t words, uint32_t party, uint32_t id, double seconds,
+                                  uint32_t routine, uint32_t data)
+{
+    uint32_t ticks = 0;
+    if (words > TICKS_PER_SECOND)
+        CALL(seconds_to_ticks)(seconds, table[TICKS_PER_SECOND], &ticks);
+    return fire_ticks(table, words, party, id, TICKING, ticks, routine, data);
 }
 
 /* ---- Packing a break ---- */
@@ -857,4 +954,392 @@ uint32_t CALL(plan)(const uint32_t *jobs, size_t job_words, uint32_t break_ticks
         return HC_UNSATISFIED;
     memcpy(starts, proposed, count * sizeof *proposed);
     return HC_SUCCESSFUL;
+}
+
+/* ---- Recordings ---- */
+
+/* Where the words of a recording stand; the machine's byte order is the file's. */
+enum { REC_PAIR, REC_SLOTS, REC_TICKS_PER_SECOND, REC_CALLS, REC_FRONT, WORD_BYTES = 4 };
+enum {
+    CREATE = 2, IDENT, CANCEL, DELETE, FIRE_AFTER, FIRE_WHEN, RESET, TICKS_LEFT, TICK, SET_CLOCK, GET_CLOCK, FIRE_EVERY,
+    NEXT_DUE, INITIATE_SERVER, SERVER_FIRE_AFTER, SERVER_FIRE_WHEN, SERVE, LEAP, LAST_CALL = LEAP
+};
+static const uint8_t argument_counts[LAST_CALL + 1] = {
+    [CREATE] = 1, [IDENT] = 1, [CANCEL] = 1, [DELETE] = 1, [FIRE_AFTER] = 4, [FIRE_WHEN] = 10, [RESET] = 1, [TICKS_LEFT] = 1,
+    [SET_CLOCK] = 7, [FIRE_EVERY] = 4, [SERVER_FIRE_AFTER] = 4, [SERVER_FIRE_WHEN] = 10, [LEAP] = 1,
+};
+
+static inline uint32_t word_at(const uint8_t *bytes, size_t position)
+{
+    uint32_t word;
+    memcpy(&word, bytes + WORD_BYTES * position, sizeof word);
+    return word;
+}
+
+static inline bool within(uint32_t word, uint32_t least, uint32_t most)
+{
+    return word - least <= most - least;
+}
+
+/* How many of these words, up to eleven, are as those of a call must be. Which of the fill words is not zero is asked only where
+ * one is not. */
+static inline uint32_t call_right(const uint8_t *bytes, size_t words)
+{
+    if (words == 0)
+        return 0;
+    uint32_t number = word_at(bytes, 0);
+    if (!within(number, CREATE, LAST_CALL))
+        return 0;
+    uint32_t at = 1 + argument_counts[number], filled = 0;
+    for (uint32_t i = words < HC_CALL_WORDS ? HC_CALL_WORDS : at; i < HC_CALL_WORDS; i++)
+        filled |= word_at(bytes, i);
+    if (words >= HC_CALL_WORDS && filled == 0)
+        return HC_CALL_WORDS;
+    while (at < HC_CALL_WORDS && at < words && word_at(bytes, at) == 0)
+        at++;
+    return at < words ? at : (uint32_t)words;
+}
+
+/* The same of a whole front: words 0 to 3. */
+static inline uint32_t front_right(const uint8_t *bytes, size_t words)
+{
+    if (words <= REC_PAIR || word_at(bytes, REC_PAIR) != 2)
+        return REC_PAIR;
+    if (words <= REC_SLOTS || !within(word_at(bytes, REC_SLOTS), 1, MAX_SLOTS))
+        return REC_SLOTS;
+    if (words <= REC_TICKS_PER_SECOND || !within(word_at(bytes, REC_TICKS_PER_SECOND), 1, MAX_TICKS_PER_SECOND))
+        return REC_TICKS_PER_SECOND;
+    if (words <= REC_CALLS || word_at(bytes, REC_CALLS) > HC_MAX_CALLS)
+        return REC_CALLS;
+    return REC_FRONT;
+}
+
+uint32_t CALL(recording_check)(const uint8_t *bytes, size_t length, uint32_t *position)
+{
+    size_t words = length / WORD_BYTES;
+    uint32_t at = front_right(bytes, words);
+    *position = at;
+    if (at < REC_FRONT)
+        return HC_INVALID_NUMBER;
+    uint32_t calls = word_at(bytes, REC_CALLS);
+    for (uint32_t k = 0; k < calls; k++) {
+        uint32_t right = call_right(bytes + WORD_BYTES * at, words - at);
+        at += right;
+        *position = at;
+        if (right < HC_CALL_WORDS)
+            return HC_INVALID_NUMBER;
+    }
+    if (words <= at || word_at(bytes, at) != calls)
+        return HC_INVALID_NUMBER;
+    at += 1 + calls;
+    *position = words < at ? (uint32_t)words : at;
+    if (length != WORD_BYTES * (size_t)at)
+        return HC_INVALID_NUMBER;
+    *position = 0;
+    return HC_SUCCESSFUL;
+}
+
+static inline struct hc_wall_time wall_time_at(const uint32_t *words)
+{
+    return (struct hc_wall_time){words[0], words[1], words[2], words[3], words[4], words[5], words[6]};
+}
+
+/* The status of one recorded call. */
+static uint32_t play(const uint32_t *call, uint32_t *table, size_t words, uint32_t *list, size_t list_words)
+{
+    const uint32_t *a = call + 1;
+    uint32_t answer, done;
+    int64_t moved;
+    struct hc_wall_time time;
+    switch (call[0]) {
+    case CREATE:
+        return CALL(create)(table, words, HC_PARTY_1, a[0], &answer);
+    case IDENT:
+        return CALL(ident)(table, words, HC_PARTY_1, a[0], &answer);
+    case CANCEL:
+        return CALL(cancel)(table, words, HC_PARTY_1, a[0]);
+    case DELETE:
+        return CALL(delete)(table, words, HC_PARTY_1, a[0]);
+    case FIRE_AFTER:
+        return CALL(fire_after)(table, words, HC_PARTY_1, a[0], a[1], a[2], a[3]);
+    case FIRE_WHEN:
+        time = wall_time_at(a + 1);
+        return CALL(fire_when)(table, words, HC_PARTY_1, a[0], &time, a[8], a[9]);
+    case RESET:
+        return CALL(reset)(table, words, HC_PARTY_1, a[0]);
+    case TICKS_LEFT:
+        return CALL(ticks_left)(table, words, HC_PARTY_1, a[0], &answer);
+    case TICK:
+        return CALL(tick)(table, words, list, list_words, &answer);
+    case SET_CLOCK:
+        time = wall_time_at(a);
+        return CALL(set_clock)(table, words, &time, list, list_words, &answer, &moved);
+    case GET_CLOCK:
+        return CALL(get_clock)(table, words, &time);
+    case FIRE_EVERY:
+        return CALL(fire_every)(table, words, HC_PARTY_1, a[0], a[1], a[2], a[3]);
+    case NEXT_DUE:
+        return CALL(next_due)(table, words, &answer);
+    case INITIATE_SERVER:
+        return CALL(initiate_server)(table, words);
+    case SERVER_FIRE_AFTER:
+        return CALL(server_fire_after)(table, words, HC_PARTY_1, a[0], a[1], a[2], a[3]);
+    case SERVER_FIRE_WHEN:
+        time = wall_time_at(a + 1);
+        return CALL(server_fire_when)(table, words, HC_PARTY_1, a[0], &time, a[8], a[9]);
+    case SERVE:
+        return CALL(serve)(table, words, HC_PARTY_1, list, list_words, &answer);
+    default:
+        return CALL(leap)(table, words, a[0], list, list_words, &done, &answer);
+    }
+}
+
+uint32_t CALL(recording_replay)(const uint8_t *bytes, size_t length, uint32_t *table, size_t table_words, uint32_t *list,
+                                size_t list_words, uint32_t *place)
+{
+    uint32_t status = CALL(recording_check)(bytes, length, place);
+    if (status != HC_SUCCESSFUL)
+        return status;
+    uint32_t slots = word_at(bytes, REC_SLOTS), calls = word_at(bytes, REC_CALLS);
+    if (table_words < HC_TABLE_WORDS(slots))
+        return HC_INVALID_SIZE;
+    if (list_words < HC_LIST_WORDS(slots))
+        return HC_LIST_TOO_SHORT;
+    CALL(lay_out)(table, HC_TABLE_WORDS(slots), slots, word_at(bytes, REC_TICKS_PER_SECOND), HC_ONE_PARTY);
+    for (uint32_t k = 0; k < calls; k++) {
+        uint32_t call[HC_CALL_WORDS], expected = word_at(bytes, REC_FRONT + HC_CALL_WORDS * calls + 1 + k);
+        memcpy(call, bytes + WORD_BYTES * (REC_FRONT + HC_CALL_WORDS * (size_t)k), sizeof call);
+        if (play(call, table, HC_TABLE_WORDS(slots), list, HC_LIST_WORDS(slots)) != expected) {
+            *place = k;
+            return HC_SUCCESSFUL;
+        }
+    }
+    *place = HC_AGREE;
+    return HC_SUCCESSFUL;
+}
+
+uint32_t CALL(recording_write)(uint32_t slots, uint32_t ticks_per_second, const uint32_t *calls, size_t call_words,
+                               const uint32_t *statuses, size_t count, uint8_t *buffer, size_t length, uint32_t *written)
+{
+    *written = 0;
+    if (!within(slots, 1, MAX_SLOTS) || !within(ticks_per_second, 1, MAX_TICKS_PER_SECOND))
+        return HC_INVALID_NUMBER;
+    if (count > HC_MAX_CALLS || call_words != HC_CALL_WORDS * count)
+        return HC_INVALID_NUMBER;
+    for (size_t k = 0; k < count; k++)
+        if (call_right((const uint8_t *)(calls + HC_CALL_WORDS * k), HC_CALL_WORDS) < HC_CALL_WORDS)
+            return HC_INVALID_NUMBER;
+    if (length < HC_RECORDING_BYTES(count))
+        return HC_INVALID_SIZE;
+    const uint32_t front[REC_FRONT] = {2, slots, ticks_per_second, (uint32_t)count};
+    memcpy(buffer, front, sizeof front);
+    memcpy(buffer + sizeof front, calls, WORD_BYTES * call_words);
+    memcpy(buffer + sizeof front + WORD_BYTES * call_words, &front[REC_CALLS], WORD_BYTES);
+    memcpy(buffer + sizeof front + WORD_BYTES * (call_words + 1), statuses, WORD_BYTES * count);
+    *written = (uint32_t)HC_RECORDING_BYTES(count);
+    return HC_SUCCESSFUL;
+}
+
+/* ---- Macros ---- */
+
+static bool has_form(const uint32_t *step)
+{
+    uint32_t last_three = step[2] | step[3] | step[4];
+    switch (step[STEP_KIND]) {
+    case HC_MACRO_ARM:
+        return true;
+    case HC_MACRO_CANCEL:
+    case HC_MACRO_WAIT:
+        return last_three == 0;
+    case HC_MACRO_REPEAT:
+        return step[STEP_TIMES] >= 1 && step[STEP_TIMES] <= MAX_TIMES && last_three == 0;
+    case HC_MACRO_CHECK:
+    case HC_MACRO_END:
+    case HC_MACRO_SIGN:
+        return (step[1] | last_three) == 0;
+    default:
+        return false;
+    }
+}
+
+/* One pass over the macro: whether it is passed. The repeats that hold the place go to around, the outermost first, and their
+ * number to depth. */
+ALWAYS_INLINE bool pass_over(const uint32_t *steps, size_t words, uint32_t place, uint32_t around[MAX_DEPTH], uint32_t *depth)
+{
+    uint32_t open = 0, count = (uint32_t)(words / STEP_WORDS), repeats[MAX_DEPTH];
+    bool unchecked = false;
+    if (words < STEP_WORDS || words > STEP_WORDS * MAX_STEPS || words % STEP_WORDS != 0)
+        return false;
+    *depth = 0;
+    for (uint32_t i = 0; i < count; i++) {
+        const uint32_t *step = steps + STEP_WORDS * i;
+        if (i == place) {
+            *depth = open;
+            memcpy(around, repeats, open * sizeof *around);
+        }
+        if (!has_form(step))
+            return false;
+        if (unchecked && step[STEP_KIND] != HC_MACRO_CHECK)
+            return false;
+        unchecked = step[STEP_KIND] == HC_MACRO_ARM || step[STEP_KIND] == HC_MACRO_CANCEL;
+        if (step[STEP_KIND] == HC_MACRO_REPEAT) {
+            if (open == MAX_DEPTH)
+                return false;
+            repeats[open++] = i;
+        }
+        if (step[STEP_KIND] == HC_MACRO_END) {
+            if (open == 0)
+                return false;
+            open--;
+        }
+    }
+    return open == 0 && !unchecked;
+}
+
+uint32_t CALL(macro_check)(const uint32_t *steps, size_t step_words)
+{
+    uint32_t around[MAX_DEPTH], depth;
+    if (!pass_over(steps, step_words, UINT32_MAX, around, &depth))
+        return HC_INVALID_NUMBER;
+    return HC_SUCCESSFUL;
+}
+
+/* Each depth's count is one of its repeat's where one of that depth holds the place, and 0 where none does. */
+static bool counts_fit(const uint32_t *steps, const struct hc_macro_record *run, const uint32_t around[MAX_DEPTH], uint32_t depth)
+{
+    for (uint32_t d = 0; d < depth; d++)
+        if (run->counts[d] < 1 || run->counts[d] > steps[STEP_WORDS * around[d] + STEP_TIMES])
+            return false;
+    for (uint32_t d = depth; d < MAX_DEPTH; d++)
+        if (run->counts[d] != 0)
+            return false;
+    return true;
+}
+
+static void go_to_end(struct hc_macro_record *run, uint32_t count)
+{
+    run->place = count;
+    memset(run->counts, 0, sizeof run->counts);
+}
+
+static void end_turn(const uint32_t *steps, struct hc_macro_record *run, uint32_t repeat, uint32_t *turn)
+{
+    if (*turn < steps[STEP_WORDS * repeat + STEP_TIMES]) {
+        *turn += 1;
+        run->place = repeat + 1;
+    } else {
+        *turn = 0;
+        run->place++;
+    }
+}
+
+/* The table and the party as the calls of a step take them. */
+#define LENT table, words, party
+
+static void wait_for(uint32_t *table, size_t words, uint32_t party, const uint32_t *step, struct hc_macro_record *run,
+                     uint32_t count)
+{
+    uint32_t left;
+    if (CALL(ticks_left)(LENT, step[STEP_ID], &left) != HC_SUCCESSFUL)
+        go_to_end(run, count);
+    else if (left == 0)
+        run->place++;
+}
+
+static void check_last(struct hc_macro_record *run, uint32_t count)
+{
+    if (run->last != HC_SUCCESSFUL)
+        go_to_end(run, count);
+    else
+        run->place++;
+}
+
+uint32_t CALL(macro_step)(uint32_t *table, size_t words, uint32_t party, const uint32_t *steps, size_t step_words,
+                          struct hc_macro_record *run, uint32_t *answer)
+{
+    uint32_t around[MAX_DEPTH], depth, count = (uint32_t)(step_words / STEP_WORDS);
+    *answer = 0;
+    if (!pass_over(steps, step_words, run->place, around, &depth))
+        return HC_INVALID_NUMBER;
+    if (run->place > count)
+        return HC_INVALID_NUMBER;
+    if (!counts_fit(steps, run, around, depth))
+        return HC_INVALID_NUMBER;
+    if (run->place == count)
+        return HC_SUCCESSFUL;
+    const uint32_t *step = steps + STEP_WORDS * run->place;
+    switch (step[STEP_KIND]) {
+    case HC_MACRO_ARM:
+        run->last = CALL(fire_after)(LENT, step[STEP_ID], step[STEP_TICKS], step[STEP_ROUTINE], step[STEP_DATA]);
+        run->place++;
+        break;
+    case HC_MACRO_CANCEL:
+        run->last = CALL(cancel)(LENT, step[STEP_ID]);
+        run->place++;
+        break;
+    case HC_MACRO_WAIT:
+        wait_for(LENT, step, run, count);
+        break;
+    case HC_MACRO_CHECK:
+        check_last(run, count);
+        break;
+    case HC_MACRO_REPEAT:
+        run->counts[depth] = 1;
+        run->place++;
+        break;
+    case HC_MACRO_END:
+        end_turn(steps, run, around[depth - 1], &run->counts[depth - 1]);
+        break;
+    case HC_MACRO_SIGN:
+        go_to_end(run, count);
+        *answer = 1;
+        break;
+    }
+    return HC_SUCCESSFUL;
+}
+
+uint32_t CALL(macro_run)(uint32_t *table, size_t words, uint32_t party, const uint32_t *steps, size_t step_words,
+                         struct hc_macro_record *run, uint32_t budget, uint32_t *answer)
+{
+    *answer = 0;
+    for (uint32_t made = 0; made < budget; made++) {
+        struct hc_macro_record before = *run;
+        uint32_t status = CALL(macro_step)(table, words, party, steps, step_words, run, answer);
+        if (status != HC_SUCCESSFUL)
+            return status;
+        if (*answer == 1)
+            break;
+        if (memcmp(run, &before, sizeof before) == 0)
+            break;
+    }
+    return HC_SUCCESSFUL;
+}
+
+/* Where the steps of the first whole entry of this name begin, and their words; false if there is none. */
+static bool find_entry(const uint32_t *library, size_t words, uint32_t name, size_t *offset, size_t *step_words)
+{
+    size_t entry = 0;
+    while (words - entry >= ENTRY_WORDS) {
+        uint64_t taken = (uint64_t)STEP_WORDS * library[entry + ENTRY_STEPS];
+        if (taken > words - entry - ENTRY_WORDS)
+            return false;
+        if (library[entry + ENTRY_NAME] == name) {
+            *offset = entry + ENTRY_WORDS;
+            *step_words = (size_t)taken;
+            return true;
+        }
+        entry += ENTRY_WORDS + (size_t)taken;
+    }
+    return false;
+}
+
+uint32_t CALL(macro_find)(const uint32_t *own, size_t own_words, const uint32_t *shared, size_t shared_words, uint32_t name,
+                          size_t *offset, size_t *step_words)
+{
+    if (find_entry(own, own_words, name, offset, step_words))
+        return HC_MACRO_OWN;
+    if (find_entry(shared, shared_words, name, offset, step_words))
+        return HC_MACRO_SHARED;
+    *offset = *step_words = 0;
+    return HC_MACRO_NOWHERE;
 }

@@ -1,4 +1,4 @@
-/* What bench.c and plans.c share: how the same call of two sides is timed. A side is a set of calls, which the file that
+/* What the programs of this folder share: how the same call of two sides is timed. A side is a set of calls, which the file that
  * includes this says. */
 #ifndef TIMING_H
 #define TIMING_H
@@ -48,7 +48,7 @@ static double least(double a, double b)
     return a < b ? a : b;
 }
 
-/* Times the sides in turn, and prints the least time of each: call, slots or jobs, library and baseline in nanoseconds. */
+/* Times the sides in turn, and prints the least time of each: call, slots, jobs or steps, library and baseline in nanoseconds. */
 static void measure(const char *name, uint32_t size, timed_call *call, const struct sides *sides, uint32_t rounds)
 {
     double theirs = 1e9, ours = 1e9, loop = 1e9;

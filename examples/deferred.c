@@ -7,14 +7,12 @@
 #include <stdbool.h>
 #include <stdio.h>
 
-enum { MACROS = 4, SLOTS = MACROS + 1, TICKS_PER_SECOND = 100, GUARD_NAME = 1, LAMP_NAME = 2 };
+enum { MACROS = 4, SLOTS = MACROS + 1, TICKS_PER_SECOND = 100 };
 enum { WORDS = HC_TABLE_WORDS(SLOTS), LIST = HC_LIST_WORDS(SLOTS) };
+enum { GUARD_NAME = HC_NAME('G', 'R', 'D', ' '), LAMP_NAME = HC_NAME('L', 'A', 'M', 'P') };
 
 /* Routines are the caller's own numbers: by them the interrupt and the task know what to do. */
 enum { STOP_MACRO = 7, SWITCH_LAMP = 8 };
-
-/* An entry of the fired list. The three words that a serve writes look the same. */
-enum { ENTRY_ID, ENTRY_ROUTINE, ENTRY_DATA, ENTRY_WORDS };
 
 static uint32_t table[WORDS], guards[MACROS];
 
@@ -27,14 +25,14 @@ static bool refused(const char *call, uint32_t status)
 {
     if (status == HC_SUCCESSFUL)
         return false;
-    printf("%s gave status %u%s\n", call, (unsigned)status, status == HC_INCORRECT_STATE ? " (incorrect state)" : "");
+    printf("%s gave status %u (%s)\n", call, (unsigned)status, hc_status_text(status));
     return true;
 }
 
 static bool create_guards(void)
 {
     for (uint32_t macro = 0; macro < MACROS; macro++)
-        if (refused("create", hc_create(table, WORDS, GUARD_NAME, &guards[macro])))
+        if (refused("create", hc_create(table, WORDS, HC_PARTY_1, GUARD_NAME, &guards[macro])))
             return false;
     return true;
 }
@@ -42,7 +40,7 @@ static bool create_guards(void)
 static bool start_guards(void)
 {
     for (uint32_t macro = 0; macro < MACROS; macro++) {
-        uint32_t status = hc_server_fire_after(table, WORDS, guards[macro], limits[macro], STOP_MACRO, macro + 1);
+        uint32_t status = hc_server_fire_after(table, WORDS, HC_PARTY_1, guards[macro], limits[macro], STOP_MACRO, macro + 1);
         if (refused("server fire after", status))
             return false;
     }
@@ -52,8 +50,8 @@ static bool start_guards(void)
 static bool start_lamp(void)
 {
     uint32_t id;
-    return !refused("create", hc_create(table, WORDS, LAMP_NAME, &id)) &&
-           !refused("fire after", hc_fire_after(table, WORDS, id, LAMP_DUE, SWITCH_LAMP, 1));
+    return !refused("create", hc_create(table, WORDS, HC_PARTY_1, LAMP_NAME, &id)) &&
+           !refused("fire after", hc_fire_after(table, WORDS, HC_PARTY_1, id, LAMP_DUE, SWITCH_LAMP, 1));
 }
 
 /* The interrupt: one tick, and the short work alone. Guards that are due do not show here. */
@@ -63,9 +61,11 @@ static bool interrupt(uint32_t tick)
     if (refused("tick", hc_tick(table, WORDS, fired, LIST, &count)))
         return false;
     printf("tick %u: %u fired\n", (unsigned)tick, (unsigned)count);
-    for (uint32_t k = 0; k < count; k++)
-        if (fired[ENTRY_WORDS * k + ENTRY_ROUTINE] == SWITCH_LAMP)
-            printf("    lamp %u is on\n", (unsigned)fired[ENTRY_WORDS * k + ENTRY_DATA]);
+    for (uint32_t k = 0; k < count; k++) {
+        struct hc_fired timer = hc_fired_at(fired, k);
+        if (timer.routine == SWITCH_LAMP)
+            printf("    lamp %u is on\n", (unsigned)timer.data);
+    }
     return true;
 }
 
@@ -74,11 +74,11 @@ static bool task(void)
 {
     uint32_t served[HC_SERVED_WORDS], count;
     do {
-        if (refused("serve", hc_serve(table, WORDS, served, HC_SERVED_WORDS, &count)))
+        if (refused("serve", hc_serve(table, WORDS, HC_PARTY_1, served, HC_SERVED_WORDS, &count)))
             return false;
         printf("serve: %u\n", (unsigned)count);
-        if (count == 1 && served[ENTRY_ROUTINE] == STOP_MACRO)
-            printf("    macro %u took too long and is stopped\n", (unsigned)served[ENTRY_DATA]);
+        if (count == 1 && hc_fired_at(served, 0).routine == STOP_MACRO)
+            printf("    macro %u took too long and is stopped\n", (unsigned)hc_fired_at(served, 0).data);
     } while (count == 1);
     return true;
 }
@@ -88,7 +88,9 @@ static bool task(void)
  * out, there is nothing to cancel, and the status says so. */
 int main(void)
 {
-    if (refused("lay out", hc_lay_out(table, WORDS, SLOTS, TICKS_PER_SECOND)) || !create_guards() || !start_lamp())
+    if (refused("lay out", hc_lay_out(table, WORDS, SLOTS, TICKS_PER_SECOND, HC_ONE_PARTY)))
+        return 1;
+    if (!create_guards() || !start_lamp())
         return 1;
     printf("no server yet: ");
     if (start_guards())
@@ -99,10 +101,10 @@ int main(void)
         if (!interrupt(tick))
             return 1;
     puts("macro 1 is done, before it is stopped");
-    if (refused("cancel", hc_cancel(table, WORDS, guards[0])))
+    if (refused("cancel", hc_cancel(table, WORDS, HC_PARTY_1, guards[0])))
         return 1;
     if (!task())
         return 1;
     printf("macro 2 is done, after it was stopped: ");
-    return refused("cancel", hc_cancel(table, WORDS, guards[1])) ? 0 : 1;
+    return refused("cancel", hc_cancel(table, WORDS, HC_PARTY_1, guards[1])) ? 0 : 1;
 }

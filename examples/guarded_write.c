@@ -9,14 +9,12 @@
 #include <stdbool.h>
 #include <stdio.h>
 
-enum { SLOTS = 2, TICKS_PER_SECOND = 100, CELLS = 6, LIMIT = 4, GUARD_NAME = 1, OTHER_NAME = 2 };
+enum { SLOTS = 2, TICKS_PER_SECOND = 100, CELLS = 6, LIMIT = 4 };
 enum { WORDS = HC_TABLE_WORDS(SLOTS), LIST = HC_LIST_WORDS(SLOTS) };
+enum { GUARD_NAME = HC_NAME('G', 'R', 'D', ' '), OTHER_NAME = HC_NAME('W', 'O', 'R', 'K') };
 
 /* Routines are the caller's own numbers: here they only tell the two kinds of timer apart. */
 enum { CELL_TOOK_TOO_LONG = 7, OTHER_WORK = 8, OTHER_WORK_DUE = 5 };
-
-/* An entry of the fired list. */
-enum { ENTRY_ID, ENTRY_ROUTINE, ENTRY_DATA, ENTRY_WORDS };
 
 static uint32_t table[WORDS], fired[LIST];
 
@@ -30,8 +28,7 @@ static bool refused(const char *call, uint32_t status, bool reads_statuses)
 {
     if (status == HC_SUCCESSFUL || !reads_statuses)
         return false;
-    printf("not signed: %s gave status %u%s\n", call, (unsigned)status,
-           status == HC_TOO_MANY ? " (too many)" : status == HC_INCORRECT_STATE ? " (incorrect state)" : "");
+    printf("not signed: %s gave status %u (%s)\n", call, (unsigned)status, hc_status_text(status));
     return true;
 }
 
@@ -42,9 +39,11 @@ static bool interrupt(bool reads_statuses)
     uint32_t count;
     if (refused("tick", hc_tick(table, WORDS, fired, LIST, &count), reads_statuses))
         return false;
-    for (uint32_t k = 0; k < count; k++)
-        if (fired[ENTRY_WORDS * k + ENTRY_ROUTINE] == CELL_TOOK_TOO_LONG)
-            printf("the guard fired at cell %u; ", (unsigned)fired[ENTRY_WORDS * k + ENTRY_DATA] + 1);
+    for (uint32_t k = 0; k < count; k++) {
+        struct hc_fired timer = hc_fired_at(fired, k);
+        if (timer.routine == CELL_TOOK_TOO_LONG)
+            printf("the guard fired at cell %u; ", (unsigned)timer.data + 1);
+    }
     return true;
 }
 
@@ -61,12 +60,12 @@ static bool write_cell(uint32_t ticks, bool reads_statuses)
 static bool write_guarded(uint32_t guard, const uint32_t *ticks, char *map, bool reads_statuses)
 {
     for (uint32_t cell = 0; cell < CELLS; cell++) {
-        uint32_t status = hc_fire_after(table, WORDS, guard, LIMIT, CELL_TOOK_TOO_LONG, cell);
+        uint32_t status = hc_fire_after(table, WORDS, HC_PARTY_1, guard, LIMIT, CELL_TOOK_TOO_LONG, cell);
         if (refused("fire after", status, reads_statuses))
             return false;
         if (!write_cell(ticks[cell], reads_statuses))
             return false;
-        if (refused("cancel", hc_cancel(table, WORDS, guard), reads_statuses))
+        if (refused("cancel", hc_cancel(table, WORDS, HC_PARTY_1, guard), reads_statuses))
             return false;
         if (ticks[cell] < LIMIT)
             map[cell] = '#';
@@ -80,10 +79,10 @@ static void write_map(const char *title, const uint32_t *ticks, bool reads_statu
     char map[CELLS + 1] = "......";
     uint32_t guard;
     printf("%s: ", title);
-    if (refused("create", hc_create(table, WORDS, GUARD_NAME, &guard), reads_statuses))
+    if (refused("create", hc_create(table, WORDS, HC_PARTY_1, GUARD_NAME, &guard), reads_statuses))
         return;
     bool written = write_guarded(guard, ticks, map, reads_statuses);
-    bool deleted = !refused("delete", hc_delete(table, WORDS, guard), reads_statuses);
+    bool deleted = !refused("delete", hc_delete(table, WORDS, HC_PARTY_1, guard), reads_statuses);
     if (written && deleted)
         printf("signed: %s\n", map);
 }
@@ -92,13 +91,13 @@ static void write_map(const char *title, const uint32_t *ticks, bool reads_statu
 static bool start_other_work(void)
 {
     uint32_t id;
-    return !refused("create", hc_create(table, WORDS, OTHER_NAME, &id), true) &&
-           !refused("fire after", hc_fire_after(table, WORDS, id, OTHER_WORK_DUE, OTHER_WORK, 0), true);
+    return !refused("create", hc_create(table, WORDS, HC_PARTY_1, OTHER_NAME, &id), true) &&
+           !refused("fire after", hc_fire_after(table, WORDS, HC_PARTY_1, id, OTHER_WORK_DUE, OTHER_WORK, 0), true);
 }
 
 int main(void)
 {
-    if (refused("lay out", hc_lay_out(table, WORDS, SLOTS, TICKS_PER_SECOND), true) || !start_other_work())
+    if (refused("lay out", hc_lay_out(table, WORDS, SLOTS, TICKS_PER_SECOND, HC_ONE_PARTY), true) || !start_other_work())
         return 1;
     write_map("smooth map, statuses read", smooth, true);
     write_map("sticky map, statuses read", sticky, true);

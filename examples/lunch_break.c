@@ -12,9 +12,6 @@ enum { WORDS = HC_TABLE_WORDS(SLOTS), LIST = HC_LIST_WORDS(SLOTS) };
 /* Routines are the caller's own numbers. */
 enum { LOG_TEMPERATURE = 7, STOP_MACRO = 8, SWITCH_LAMP = 9 };
 
-/* An entry of the fired list. */
-enum { ENTRY_ID, ENTRY_ROUTINE, ENTRY_DATA, ENTRY_WORDS };
-
 static uint32_t table[WORDS], fired[LIST];
 
 /* Every status goes through here. */
@@ -22,7 +19,7 @@ static bool refused(const char *call, uint32_t status)
 {
     if (status == HC_SUCCESSFUL)
         return false;
-    printf("%s gave status %u\n", call, (unsigned)status);
+    printf("%s gave status %u (%s)\n", call, (unsigned)status, hc_status_text(status));
     return true;
 }
 
@@ -32,24 +29,24 @@ static bool start_timers(void)
     const struct hc_wall_time noon = {2024, 2, 29, 12, 0, 0, 0}, half_past = {2024, 2, 29, 12, 30, 0, 0};
     uint32_t log, guard, lamp, count;
     int64_t moved;
-    return !refused("lay out", hc_lay_out(table, WORDS, SLOTS, TICKS_PER_SECOND)) &&
+    return !refused("lay out", hc_lay_out(table, WORDS, SLOTS, TICKS_PER_SECOND, HC_ONE_PARTY)) &&
            !refused("set clock", hc_set_clock(table, WORDS, &noon, fired, LIST, &count, &moved)) &&
-           !refused("create", hc_create(table, WORDS, 1, &log)) && !refused("create", hc_create(table, WORDS, 2, &guard)) &&
-           !refused("create", hc_create(table, WORDS, 3, &lamp)) &&
-           !refused("fire every", hc_fire_every(table, WORDS, log, 25 * MINUTE, LOG_TEMPERATURE, 1)) &&
-           !refused("fire after", hc_fire_after(table, WORDS, guard, 40 * MINUTE + 7, STOP_MACRO, 2)) &&
-           !refused("fire when", hc_fire_when(table, WORDS, lamp, &half_past, SWITCH_LAMP, 3));
+           !refused("create", hc_create(table, WORDS, HC_PARTY_1, 1, &log)) &&
+           !refused("create", hc_create(table, WORDS, HC_PARTY_1, 2, &guard)) &&
+           !refused("create", hc_create(table, WORDS, HC_PARTY_1, 3, &lamp)) &&
+           !refused("fire every", hc_fire_every(table, WORDS, HC_PARTY_1, log, 25 * MINUTE, LOG_TEMPERATURE, 1)) &&
+           !refused("fire after", hc_fire_after(table, WORDS, HC_PARTY_1, guard, 40 * MINUTE + 7, STOP_MACRO, 2)) &&
+           !refused("fire when", hc_fire_when(table, WORDS, HC_PARTY_1, lamp, &half_past, SWITCH_LAMP, 3));
 }
 
-static void run(const uint32_t *entry)
+static void run(struct hc_fired timer)
 {
-    unsigned data = (unsigned)entry[ENTRY_DATA];
-    if (entry[ENTRY_ROUTINE] == LOG_TEMPERATURE)
-        printf("    temperature of bench %u is logged\n", data);
-    else if (entry[ENTRY_ROUTINE] == STOP_MACRO)
-        printf("    macro %u took too long and is stopped\n", data);
-    else if (entry[ENTRY_ROUTINE] == SWITCH_LAMP)
-        printf("    lamp %u is on\n", data);
+    if (timer.routine == LOG_TEMPERATURE)
+        printf("    temperature of bench %u is logged\n", (unsigned)timer.data);
+    else if (timer.routine == STOP_MACRO)
+        printf("    macro %u took too long and is stopped\n", (unsigned)timer.data);
+    else if (timer.routine == SWITCH_LAMP)
+        printf("    lamp %u is on\n", (unsigned)timer.data);
 }
 
 /* One leap and what it came to; gives the ticks done, 0 if it was refused. */
@@ -64,7 +61,7 @@ static uint32_t leap(uint32_t ticks)
     printf("%02u:%02u:%02u.%02u after %u ticks: %u fired\n", (unsigned)now.hour, (unsigned)now.minute, (unsigned)now.second,
            (unsigned)now.ticks, (unsigned)done, (unsigned)count);
     for (uint32_t k = 0; k < count; k++)
-        run(&fired[ENTRY_WORDS * k]);
+        run(hc_fired_at(fired, k));
     return done;
 }
 

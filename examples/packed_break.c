@@ -13,7 +13,7 @@ static void plan(uint32_t break_ticks)
 {
     uint32_t starts[JOBS] = {9, 9, 9, 9};
     uint32_t status = hc_plan(jobs, HC_JOB_WORDS(JOBS), break_ticks, starts, JOBS);
-    printf("plan of %u ticks: status %u, starts", (unsigned)break_ticks, (unsigned)status);
+    printf("plan of %u ticks: %s, starts", (unsigned)break_ticks, hc_status_text(status));
     for (int i = 0; i < JOBS; i++)
         printf(" %u", (unsigned)starts[i]);
     puts("");
@@ -22,8 +22,8 @@ static void plan(uint32_t break_ticks)
 static void check(const uint32_t starts[JOBS])
 {
     uint32_t status = hc_plan_check(jobs, HC_JOB_WORDS(JOBS), BREAK, starts, JOBS);
-    printf("check of %u %u %u %u: status %u\n", (unsigned)starts[0], (unsigned)starts[1], (unsigned)starts[2],
-           (unsigned)starts[3], (unsigned)status);
+    printf("check of %u %u %u %u: %s\n", (unsigned)starts[0], (unsigned)starts[1], (unsigned)starts[2],
+           (unsigned)starts[3], hc_status_text(status));
 }
 
 int main(void)

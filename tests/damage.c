@@ -1,6 +1,7 @@
-/* Damaged tables: one or two words changed, links that lead elsewhere, many words at once, or the slice cut short. A table
- * that is no longer sound must be refused with 100 and stay; one that still is must be served as the oracle serves what it
- * reads from it. Next due alone answers on tables that are not sound, by its own rule.
+/* Damaged tables: one or two words changed, links that lead elsewhere, many words at once, or the slice cut short; and the
+ * split alone changed, to every number up to some above N. A table that is no longer sound must be refused with 100 and stay;
+ * one that still is must be served as the oracle serves what it reads from it. Next due alone answers on tables that are not
+ * sound, by its own rule.
  * Arguments: seed, number of calls. */
 #include "generate.h"
 
@@ -13,6 +14,8 @@ static struct oracle served;       /* what a table that is still sound after it 
 static struct outcome expected;
 static uint64_t calls, refused, harmless, answered_unsound;
 static bool broken_alone[PARTS], broken_by[PARTS][KINDS + 1];       /* by a slot of the kind, or above the last */
+static uint64_t splits;             /* numbers that word 7 was changed to */
+static bool split_refused[CALLS], split_moved[CALLS];   /* calls refused for word 7 alone, and accepted after another split */
 
 /* The undamaged table, and its place in memory: at its start, or ending at its end. */
 static uint32_t base[MAX_TABLE];
@@ -59,7 +62,7 @@ static void choose_stretch(size_t *from, size_t *count)
         *from = 0, *count = HEADER_WORDS;
         break;
     case 2:
-        *from = HEADER_ZERO, *count = HEADER_WORDS - HEADER_ZERO;
+        *from = HEADER_SPLIT, *count = HEADER_WORDS - HEADER_SPLIT;
         break;
     case 3:
         *from = HEADER_WORDS, *count = slice;
@@ -163,22 +166,26 @@ static void change_words(void)
     }
 }
 
-/* Lays the table beside a closed page, whole or its first words, and damages it. Zeros past it make further free slots
- * of a raised slot count. */
-static void damage(size_t tail)
+/* Lays the table beside a closed page, whole or its first words. Zeros past it make further free slots of a raised slot
+ * count. */
+static void lay_table(size_t words)
 {
-    slice = base_words + tail;
-    if (one_in(12))
-        slice = one_in(2) ? below((uint32_t)base_words) : base_words - 1;
-    at_start = one_in(4);
+    slice = words, at_start = one_in(4);
     table = slice_of(&table_memory, slice, at_start);
     memcpy(table, base, (slice < base_words ? slice : base_words) * sizeof(uint32_t));
     for (size_t i = base_words; i < slice; i++)
         table[i] = one_in(2) ? 0 : random_word();
     if (one_in(2) && slice > base_words)
         memset(table + base_words, 0, (slice - base_words) * sizeof(uint32_t));
+}
+
+static void damage(size_t tail)
+{
+    size_t words = base_words + tail;
+    if (one_in(12))
+        words = one_in(2) ? below((uint32_t)base_words) : base_words - 1;
+    lay_table(words);
     change_words();
-    memcpy(table_memory.expected, table_memory.base, table_memory.total * sizeof(uint32_t));
 }
 
 static void choose_call(struct call *c)
@@ -233,25 +240,71 @@ static void expect(struct call *c)
         oracle_refuse_unsound(c, table, &expected);
         refused++;
         note_alone(broken, kinds);
+        split_refused[c->kind] = split_refused[c->kind] || broken == UINT64_C(1) << PART_SPLIT;
         return;
     }
     if (!broken) {
         oracle_decode(table, &served);
         afford_leap(&served, c);
     }
+    bool moved = !broken && served.split != base[HEADER_SPLIT];
     oracle_call(&served, c, &expected);     /* a lay out does not look at the state before it */
+    split_moved[c->kind] = split_moved[c->kind] || (moved && expected.status == HC_SUCCESSFUL);
     harmless += !broken;
 }
 
-static void try_one(size_t tail)
+/* Makes a call on the damaged table. */
+static void try_one(void)
 {
     struct call c;
-    damage(tail);
+    memcpy(table_memory.expected, table_memory.base, table_memory.total * sizeof(uint32_t));
     choose_call(&c);
     place.call = &c, place.memory = &table_memory, place.words = table, place.number++, calls++;
     place.list = slice_of(&list_memory, c.fired_words, at_start);
     expect(&c);
     try_call(&expected, &served);
+}
+
+static void try_split(uint32_t split)
+{
+    enum { CALLS_OF_SPLIT = 24 };
+    splits++;
+    for (int i = 0; i < CALLS_OF_SPLIT; i++) {
+        lay_table(base_words);
+        table[HEADER_SPLIT] = split;
+        try_one();
+    }
+}
+
+/* Word 7 of a state of so many slots becomes every number up to some above them, and others at which numbers end. */
+static void try_splits(uint32_t slots)
+{
+    enum { ABOVE = 3, LONGEST = 32 };
+    do
+        random_state_of(&original);
+    while (original.slots != slots);
+    oracle_encode(&original, base);
+    base_words = table_words(slots);
+    place.table++, place.number = 0;
+    for (uint32_t split = 0; split <= slots + ABOVE; split++)
+        try_split(split);
+    for (uint32_t bits = 1; bits <= LONGEST; bits++)
+        try_split((uint32_t)((UINT64_C(1) << bits) - 1)), try_split((uint32_t)((UINT64_C(1) << (bits - 1)) + slots - 1));
+}
+
+static unsigned splits_not_met(void)
+{
+    unsigned missing = 0;
+    for (int kind = 0; kind < CALLS; kind++) {
+        bool not_refused = kind != LAY_OUT && kind != NEXT_DUE && !split_refused[kind];
+        bool not_moved = oracle_takes_party((enum call_kind)kind) && !split_moved[kind];
+        if (not_refused)
+            printf("  not met: %s on a table not sound for its split alone\n", call_names[kind]);
+        if (not_moved)
+            printf("  not met: %s accepted on a table of another split\n", call_names[kind]);
+        missing += (unsigned)not_refused + not_moved;
+    }
+    return missing;
 }
 
 static unsigned parts_not_met(void)
@@ -277,6 +330,9 @@ int main(int count, char **arguments)
     uint64_t wanted = number_argument(count, arguments, 2, 1000000);
     begin("damage", seed);
     lend();
+    static const uint32_t sizes[] = {1, 2, 3, 12, MAX_SLOTS};
+    for (size_t i = 0; i < sizeof sizes / sizeof *sizes; i++)
+        try_splits(sizes[i]);
     while (calls < wanted) {
         random_manner();
         random_state_of(&original);
@@ -286,13 +342,16 @@ int main(int count, char **arguments)
         if (original.slots == MAX_SLOTS && one_in(2))
             tail = SLOT_WORDS + below(4);
         place.table++, place.number = 0;
-        for (int i = 0; i < 40; i++)
-            try_one(tail);
+        for (int i = 0; i < 40; i++) {
+            damage(tail);
+            try_one();
+        }
     }
     printf("damage: seed %" PRIu64 ", %" PRIu64 " calls on %" PRIu64 " tables; %" PRIu64 " refused as not sound, %" PRIu64
-           " on tables still sound\n", seed, calls, place.table, refused, harmless);
+           " on tables still sound; %" PRIu64 " numbers for word 7\n", seed, calls, place.table, refused, harmless, splits);
     report_met();
-    unsigned missing = statuses_not_met() + kinds_not_met() + turns_not_met(TURNS) + date_cases_not_met() + parts_not_met();
+    unsigned missing = statuses_not_met() + kinds_not_met() + turns_not_met(TURNS) + date_cases_not_met() +
+                       parties_not_met() + parts_not_met() + splits_not_met();
     place.call = NULL, place.table = 0;
     if (missing)
         fail("%u cases were not met", missing);

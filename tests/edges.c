@@ -14,6 +14,9 @@ _Static_assert(HC_SUCCESSFUL == 0 && HC_INVALID_NAME == 3 && HC_INVALID_ID == 4 
 _Static_assert(sizeof(struct hc_wall_time) == 7 * sizeof(uint32_t), "a wall time is seven words");
 _Static_assert(HC_TABLE_WORDS(255) == 2050 && HC_LIST_WORDS(255) == 765 && HC_SERVED_WORDS == 3, "the header's lengths");
 _Static_assert(HC_MOST_LEAP == 1000000, "the most ticks of a leap");
+_Static_assert(HC_ONE_PARTY == 0 && HC_PARTY_1 == 1 && HC_PARTY_2 == 2, "the parties");
+_Static_assert(HC_PARTY_OF(ID_BASE + 255, 0) == 1 && HC_PARTY_OF(ID_BASE + 1, 1) == 1 && HC_PARTY_OF(ID_BASE + 2, 1) == 2 &&
+               HC_PARTY_OF(ID_BASE + 254, 254) == 1 && HC_PARTY_OF(ID_BASE + 255, 254) == 2, "whose an id is");
 
 enum { SLOTS = 3, WORDS = HC_TABLE_WORDS(SLOTS), LIST = HC_LIST_WORDS(SLOTS), ONE_SLOT_WORDS = HC_TABLE_WORDS(1) };
 static uint32_t table[WORDS], list[LIST], answer, done;
@@ -49,28 +52,42 @@ static struct hc_wall_time with_ticks(struct hc_wall_time time, uint32_t ticks)
 /* ---- The calls, on a slice of so many words and with so many of list, by their own arguments ---- */
 
 static size_t words = WORDS, list_length = LIST;
+static uint32_t party = 1;
+
+static uint32_t make_on(uint32_t *words_of_table, struct call c)
+{
+    struct came came;
+    place.call = &c;
+    perform(&c, words_of_table, list, &came);
+    place.call = NULL;
+    answer = came.answer, done = came.done, moved = came.moved;
+    return came.status;
+}
 
 static uint32_t make(struct call c)
 {
-    struct came came;
-    c.words = words, c.fired_words = list_length;
-    place.call = &c;
-    perform(&c, table, list, &came);
-    place.call = NULL;
-    answer = came.answer, done = came.done, moved = came.moved;
-    if (came.beside)
-        fail("expected the words beside the answers and the wall time given to stay, came a change");
-    return came.status;
+    c.words = words, c.fired_words = list_length, c.party = party;
+    return make_on(table, c);
+}
+
+static uint32_t lay_out_split(uint32_t slots, uint32_t ticks_per_second, uint32_t split)
+{
+    return make((struct call){.kind = LAY_OUT, .slots = slots, .ticks_per_second = ticks_per_second, .split = split});
 }
 
 static uint32_t lay_out(uint32_t slots, uint32_t ticks_per_second)
 {
-    return make((struct call){.kind = LAY_OUT, .slots = slots, .ticks_per_second = ticks_per_second});
+    return lay_out_split(slots, ticks_per_second, 0);
 }
 
 static uint32_t create(uint32_t name)
 {
     return make((struct call){.kind = CREATE, .name = name});
+}
+
+static uint32_t ident(uint32_t name)
+{
+    return make((struct call){.kind = IDENT, .name = name});
 }
 
 static uint32_t cancel(uint32_t id)
@@ -337,8 +354,10 @@ static void queue_is(uint32_t first, uint32_t second, uint32_t third)
         is("next in the queue", ids[i + 1] == 0 ? 0 : ids[i + 1] - ID_BASE, word_of(ids[i], SLOT_NEXT));
         is("previous in the queue", i == 0 ? 0 : ids[i - 1] - ID_BASE, word_of(ids[i], SLOT_PREVIOUS));
         is("wait of a queued timer", 0, word_of(ids[i], SLOT_WAIT));
+        party = HC_PARTY_OF(ids[i], table[HEADER_SPLIT]);
         is("ticks left", 0, ticks_left(ids[i]));
         is("none", 0, answer);
+        party = 1;
     }
 }
 
@@ -686,11 +705,11 @@ static void order_of_cancel(void)
     is("create in its slot", 0, create(1));
     cancel_is_refused("cancel, the new timer never started", 14, one);
     is("fire after", 0, fire_after(two, 5, 8, 80));
-    table[HEADER_ZERO] = 1;
+    table[HEADER_SPLIT] = SLOTS;
     cancel_is_refused("cancel, not sound, never started", 100, one);
     cancel_is_refused("cancel, not sound, waiting", 100, two);
     cancel_is_refused("cancel, not sound, a free slot", 100, three);
-    table[HEADER_ZERO] = 0;
+    table[HEADER_SPLIT] = 0;
     words = WORDS - 1;
     cancel_is_refused("cancel, a word too few, never started", 100, one);
     words = WORDS;
@@ -841,12 +860,12 @@ static void order_of_set_clock(void)
     set_clock_is_refused("set clock, a word of list too few, no such date", 101, never);
     set_clock_is_refused("set clock, a word of list too few", 101, noon);
     list_length = LIST;
-    table[HEADER_ZERO] = 1;
+    table[HEADER_SPLIT] = SLOTS;
     set_clock_is_refused("set clock, not sound, ticks of T", 100, with_ticks(noon, 10));
     set_clock_is_refused("set clock, not sound", 100, noon);
     list_length = 0;
     set_clock_is_refused("set clock, not sound, no list, ticks of T", 100, with_ticks(noon, 10));
-    table[HEADER_ZERO] = 0, list_length = LIST;
+    table[HEADER_SPLIT] = 0, list_length = LIST;
     is("set clock, ticks of T - 1", 0, set_clock(with_ticks(noon, 9)));
     moved_is("it was not set", 0);
     clock_is(0, 9);
@@ -857,9 +876,9 @@ static void order_of_set_clock(void)
     set_clock_is_refused("set clock, ticks 65536", 20, with_ticks(noon, 65536));
     list_length = LIST - 1;
     set_clock_is_refused("set clock past a date, a word of list too few", 101, at(2000, 1, 1, 13, 0, 0));
-    list_length = LIST, table[HEADER_ZERO] = 1;
+    list_length = LIST, table[HEADER_SPLIT] = SLOTS;
     set_clock_is_refused("set clock past a date, not sound", 100, at(2000, 1, 1, 13, 0, 0));
-    table[HEADER_ZERO] = 0;
+    table[HEADER_SPLIT] = 0;
     set_clock_is_refused("set clock, no such date", 20, never);
     clock_is(0, 9);
 }
@@ -1174,24 +1193,28 @@ static void next_refusals(void)
     next_is_refused("the greatest N");
 }
 
+static uint32_t next_due_on(uint32_t *words_of_table, size_t length)
+{
+    return make_on(words_of_table, (struct call){.kind = NEXT_DUE, .words = length});
+}
+
 /* The slice of a table of the most slots, and of one more. */
 static void next_slices(void)
 {
     static uint32_t big[HC_TABLE_WORDS(256)];
-    uint32_t ticks = 1;
     big[HEADER_SLOTS] = 255;
-    is("2050 words", 0, hc_next_due(big, HC_TABLE_WORDS(255), &ticks));
-    is("none waits", 0, ticks);
+    is("2050 words", 0, next_due_on(big, HC_TABLE_WORDS(255)));
+    is("none waits", 0, answer);
     big[HEADER_FIRST_TICKING] = 255, big[slot_at(255, SLOT_KIND)] = KIND_TICKING, big[slot_at(255, SLOT_WAIT)] = 8;
-    is("2050 words", 0, hc_next_due(big, HC_TABLE_WORDS(255), &ticks));
-    is("slot 255", 8, ticks);
-    is("2049 words", HC_NOT_SOUND, hc_next_due(big, HC_TABLE_WORDS(255) - 1, &ticks));
-    is("2049 words", 0, ticks);
+    is("2050 words", 0, next_due_on(big, HC_TABLE_WORDS(255)));
+    is("slot 255", 8, answer);
+    is("2049 words", HC_NOT_SOUND, next_due_on(big, HC_TABLE_WORDS(255) - 1));
+    is("2049 words", 0, answer);
     big[HEADER_SLOTS] = 256;
-    is("N 256", HC_NOT_SOUND, hc_next_due(big, HC_TABLE_WORDS(256), &ticks));
+    is("N 256", HC_NOT_SOUND, next_due_on(big, HC_TABLE_WORDS(256)));
     big[HEADER_SLOTS] = 1, big[HEADER_FIRST_TICKING] = 0;
     for (size_t length = 0; length < HC_TABLE_WORDS(1) + 2; length++)
-        is("so many words for N 1", length < HC_TABLE_WORDS(1) ? HC_NOT_SOUND : 0, hc_next_due(big, length, &ticks));
+        is("so many words for N 1", length < HC_TABLE_WORDS(1) ? HC_NOT_SOUND : 0, next_due_on(big, length));
 }
 
 /* ---- Leaps ---- */
@@ -1251,11 +1274,11 @@ static void order_of_leap(void)
         leap_changes_nothing("leap, a word of list too few", 101, ticks[i]);
         list_length = 0;
         leap_changes_nothing("leap, no list", 101, ticks[i]);
-        table[HEADER_ZERO] = 1;
+        table[HEADER_SPLIT] = SLOTS;
         leap_changes_nothing("leap, not sound, no list", 100, ticks[i]);
         list_length = LIST;
         leap_changes_nothing("leap, not sound", 100, ticks[i]);
-        table[HEADER_ZERO] = 0, words = WORDS - 1;
+        table[HEADER_SPLIT] = 0, words = WORDS - 1;
         leap_changes_nothing("leap, a word of table too few", 100, ticks[i]);
         words = WORDS;
     }
@@ -1519,6 +1542,312 @@ static void leaps_add_up(void)
         }
 }
 
+/* ---- Two parties ---- */
+
+/* The split is 0 or 1 to N - 1; else 10, before 8. */
+static void splits_of_lay_out(void)
+{
+    static uint32_t big[HC_TABLE_WORDS(255)];
+    struct call large = {.kind = LAY_OUT, .words = HC_TABLE_WORDS(255), .slots = 255, .ticks_per_second = 1, .split = 255};
+    struct call second = {.kind = CREATE, .words = HC_TABLE_WORDS(255), .party = HC_PARTY_2, .name = 9};
+    for (uint32_t split = 0; split < SLOTS; split++) {
+        is("lay out, split below N", 0, lay_out_split(SLOTS, 10, split));
+        is("word 7", split, table[HEADER_SPLIT]);
+        is("it is sound", 0, create(1));
+    }
+    is("lay out, split N", 10, lay_out_split(SLOTS, 10, SLOTS));
+    is("word 7 stays", 2, table[HEADER_SPLIT]);
+    is("lay out, split N + 1", 10, lay_out_split(SLOTS, 10, SLOTS + 1));
+    is("lay out, split 4294967295", 10, lay_out_split(SLOTS, 10, UINT32_MAX));
+    is("lay out, N 0, split 0", 10, lay_out_split(0, 10, 0));
+    words = WORDS - 1;
+    is("lay out, split N and a word too few", 10, lay_out_split(SLOTS, 10, SLOTS));
+    is("lay out, split N - 1 and a word too few", 8, lay_out_split(SLOTS, 10, SLOTS - 1));
+    words = WORDS;
+    is("word 7 stays", 2, table[HEADER_SPLIT]);
+    is("lay out, split 0", 0, lay_out(SLOTS, 10));
+    is("word 7", 0, table[HEADER_SPLIT]);
+    is("lay out, N 1, split 1", 10, lay_out_split(1, 10, 1));
+    is("lay out, N 1, split 0", 0, lay_out_split(1, 10, 0));
+    is("lay out, N 2, split 1", 0, lay_out_split(2, 10, 1));
+    is("lay out, N 255, split 255", 10, make_on(big, large));
+    large.split = 254;
+    is("lay out, N 255, split 254", 0, make_on(big, large));
+    is("create of party 2", 0, make_on(big, second));
+    is("its id", ID_BASE + 255, answer);
+    is("create of party 2 again", 5, make_on(big, second));
+}
+
+/* Word 7 is sound from 0 to N - 1. */
+static void splits_of_sound_tables(void)
+{
+    fresh();
+    for (uint32_t split = 0; split < SLOTS + 3; split++) {
+        table[HEADER_SPLIT] = split;
+        is("word 7", split < SLOTS ? 0 : HC_NOT_SOUND, ticks_left(one));
+        is("word 7", split < SLOTS ? 0 : HC_NOT_SOUND, tick());
+    }
+    table[HEADER_SPLIT] = UINT32_MAX;
+    is("word 7", HC_NOT_SOUND, ticks_left(one));
+    next_is("next due does not look at it", 0);
+}
+
+static const enum call_kind party_calls[] = {CREATE, IDENT, CANCEL, DELETE, FIRE_AFTER, FIRE_WHEN, FIRE_EVERY, RESET,
+                                             TICKS_LEFT, SERVER_FIRE_AFTER, SERVER_FIRE_WHEN, SERVE};
+enum { PARTY_CALLS = sizeof party_calls / sizeof *party_calls };
+
+/* The call of a party gives this status, with answer 0 where it is refused, and changes no word then. */
+static void party_call_gives(uint32_t caller, struct call c, uint32_t status)
+{
+    uint32_t before[WORDS];
+    memcpy(before, table, sizeof before);
+    fill_list();
+    party = caller;
+    is(call_names[c.kind], status, make(c));
+    party = 1;
+    if (status == 0)
+        return;
+    is("answer of a refused call", 0, answer);
+    for (uint32_t i = 0; i < WORDS; i++)
+        is("word of the table after a refused call", before[i], table[i]);
+    list_stays(0);
+}
+
+/* With nothing wrong but the party: it is accepted from party 1. Or all is wrong: no name, ticks, routine, date or timer. */
+static struct call call_of(enum call_kind kind, bool wrong)
+{
+    if (wrong)
+        return (struct call){.kind = kind, .id = no_such_timer, .time = at(2000, 13, 1, 0, 0, 0)};
+    return (struct call){.kind = kind, .name = 1, .id = one, .ticks = 5, .time = at(2000, 1, 1, 12, 0, 9), .routine = 7};
+}
+
+/* A timer in slot 1 waits, and the other slots are free. */
+static void one_waits(uint32_t split, bool server)
+{
+    is("lay out", 0, lay_out_split(SLOTS, 10, split));
+    if (server)
+        is("initiate", 0, initiate_server());
+    is("set clock", 0, set_clock(noon));
+    is("create", 0, create(1));
+    is("fire after", 0, fire_after(one, 50, 7, 70));
+}
+
+/* Party 0 and 3 there is never, party 2 only where the table is split. 100 and 101 come first, then 4, then all else. */
+static void no_such_party(void)
+{
+    static const uint32_t none[] = {0, 3, 4, 255, 0x12010001, 2147483649u, UINT32_MAX};
+    for (uint32_t split = 0; split < SLOTS; split++)
+        for (int server = 0; server < 2; server++)
+            for (int i = 0; i < PARTY_CALLS; i++)
+                for (int wrong = 0; wrong < 2; wrong++) {
+                    struct call c = call_of(party_calls[i], wrong);
+                    one_waits(split, server);
+                    for (size_t k = 0; k < sizeof none / sizeof *none; k++)
+                        party_call_gives(none[k], c, 4);
+                    if (split == 0)
+                        party_call_gives(2, c, 4);
+                    words = WORDS - 1;
+                    party_call_gives(3, c, 100);
+                    words = WORDS, list_length = FIRED_WORDS - 1;
+                    party_call_gives(3, c, c.kind == SERVE ? 101 : 4);
+                    list_length = LIST;
+                }
+    for (int i = 0; i < PARTY_CALLS; i++) {
+        one_waits(1, true);
+        party_call_gives(1, call_of(party_calls[i], false), party_calls[i] == CREATE ? 5 : 0);
+    }
+}
+
+/* Every call with the id of every slot, by both parties: accepted for one's own, and 4 for the other's. */
+static void ids_of_both(void)
+{
+    for (uint32_t split = 1; split < SLOTS; split++)
+        for (int i = 0; i < PARTY_CALLS; i++)
+            for (uint32_t index = 1; index <= SLOTS && oracle_takes_id(party_calls[i]); index++)
+                for (uint32_t caller = 1; caller <= 2; caller++) {
+                    struct call c = call_of(party_calls[i], false);
+                    uint32_t owner = index <= split ? 1 : 2;
+                    c.id = ID_BASE + index;
+                    is("lay out", 0, lay_out_split(SLOTS, 10, split));
+                    is("initiate", 0, initiate_server());
+                    is("set clock", 0, set_clock(noon));
+                    for (uint32_t slot = 1; slot <= SLOTS; slot++) {
+                        party = slot <= split ? 1 : 2;
+                        is("create", 0, create(1));
+                        is("its id", ID_BASE + slot, answer);
+                        is("fire after", 0, fire_after(ID_BASE + slot, 9, 7, 70));
+                    }
+                    party_call_gives(caller, c, caller == owner ? 0 : 4);
+                }
+}
+
+/* An id of the other's is 4 in its usual place: after what comes before it, and before 14 and 11. */
+static void place_of_anothers_id(void)
+{
+    struct hc_wall_time later = at(2000, 1, 1, 12, 0, 9);
+    one_waits(1, true);
+    party = 2;
+    is("create", 0, create(1));
+    is("its id", two, answer);
+    party = 1;
+    party_call_gives(2, (struct call){.kind = FIRE_AFTER, .id = one, .routine = 7}, 10);
+    party_call_gives(2, (struct call){.kind = FIRE_AFTER, .id = one, .ticks = 5}, 9);
+    party_call_gives(2, (struct call){.kind = FIRE_EVERY, .id = one, .routine = 7}, 10);
+    party_call_gives(2, (struct call){.kind = FIRE_EVERY, .id = one, .ticks = 5}, 9);
+    party_call_gives(2, (struct call){.kind = FIRE_WHEN, .id = one, .time = later}, 9);
+    party_call_gives(2, (struct call){.kind = FIRE_WHEN, .id = one, .time = noon, .routine = 7}, 20);
+    party_call_gives(2, (struct call){.kind = SERVER_FIRE_AFTER, .id = one, .routine = 7}, 10);
+    party_call_gives(2, (struct call){.kind = SERVER_FIRE_AFTER, .id = one, .ticks = 5}, 9);
+    party_call_gives(2, (struct call){.kind = SERVER_FIRE_WHEN, .id = one, .time = later}, 9);
+    party_call_gives(2, (struct call){.kind = SERVER_FIRE_WHEN, .id = one, .time = noon, .routine = 7}, 20);
+    party_call_gives(1, (struct call){.kind = CANCEL, .id = two}, 4);
+    party_call_gives(1, (struct call){.kind = RESET, .id = two}, 4);
+    party_call_gives(2, (struct call){.kind = CANCEL, .id = two}, 14);
+    party_call_gives(2, (struct call){.kind = RESET, .id = two}, 11);
+    party_call_gives(2, (struct call){.kind = CANCEL, .id = one}, 4);
+    party_call_gives(1, (struct call){.kind = CANCEL, .id = three}, 4);
+    party_call_gives(2, (struct call){.kind = CANCEL, .id = three}, 4);
+    one_waits(1, false);
+    party_call_gives(2, (struct call){.kind = SERVER_FIRE_AFTER, .id = one, .ticks = 5, .routine = 7}, 14);
+    party_call_gives(2, (struct call){.kind = SERVER_FIRE_WHEN, .id = one, .time = later, .routine = 7}, 14);
+}
+
+static void party_creates(uint32_t caller, uint32_t name, uint32_t status, uint32_t id)
+{
+    party = caller;
+    is("create", status, create(name));
+    is("its id", id, answer);
+    party = 1;
+}
+
+static void party_idents(uint32_t caller, uint32_t name, uint32_t id)
+{
+    party = caller;
+    is("ident", id == 0 ? 3 : 0, ident(name));
+    is("its id", id, answer);
+    party = 1;
+}
+
+/* Create takes the party's lowest free slot, and is 5 where it has none, though the other has. Ident finds its own. */
+static void slots_and_names_of_both(void)
+{
+    is("lay out", 0, lay_out_split(SLOTS, 10, 1));
+    party_creates(2, 5, 0, two);
+    party_idents(1, 5, 0);
+    party_creates(1, 5, 0, one);
+    party_idents(2, 5, two);
+    party_idents(1, 5, one);
+    party_creates(1, 6, 5, 0);
+    party_creates(1, 0, 3, 0);
+    party_creates(2, 6, 0, three);
+    party_creates(2, 6, 5, 0);
+    party_idents(1, 6, 0);
+    party_idents(2, 6, three);
+    is("delete", 0, delete(one));
+    party_creates(2, 6, 5, 0);
+    party_idents(1, 5, 0);
+    party_idents(2, 5, two);
+    party_creates(1, 6, 0, one);
+    party_idents(2, 6, three);
+    party_idents(1, 6, one);
+    is("lay out", 0, lay_out_split(SLOTS, 10, 2));
+    party_creates(2, 7, 0, three);
+    party_creates(2, 7, 5, 0);
+    party_creates(1, 7, 0, one);
+    party_creates(1, 7, 0, two);
+    party_creates(1, 7, 5, 0);
+    party_idents(2, 7, three);
+    party_idents(1, 7, one);
+    is("delete", 0, delete(one));
+    party_idents(1, 7, two);
+    party_idents(2, 7, three);
+    party_idents(2, 0, 0);
+}
+
+/* All three are queued in this order, on a table of that split. */
+static void queue_in_order(uint32_t split, const uint32_t *order)
+{
+    is("lay out", 0, lay_out_split(SLOTS, 10, split));
+    is("initiate", 0, initiate_server());
+    for (uint32_t index = 1; index <= SLOTS; index++)
+        party_creates(index <= split ? 1 : 2, index, 0, ID_BASE + index);
+    for (int i = 0; i < SLOTS; i++) {
+        uint32_t index = order[i] - ID_BASE;
+        party = index <= split ? 1 : 2;
+        is("server fire after 1", 0, server_fire_after(order[i], 1, 7, 10 * index));
+    }
+    party = 1;
+    nothing_fires(1);
+}
+
+/* A serve of the party hands out this timer; 0 for none. */
+static void party_is_handed(uint32_t caller, uint32_t id)
+{
+    party = caller;
+    hands_out(id, 7, 10 * (id - ID_BASE));
+    party = 1;
+    if (id != 0)
+        is("it is idle", KIND_IDLE_SERVER_TICKING, kind(id - ID_BASE));
+}
+
+/* A serve hands out the caller's first, wherever it stands, and the others stay in their order. */
+static void serves_of_both(void)
+{
+    queue_in_order(1, (uint32_t[]){two, one, three});
+    queue_is(two, one, three);
+    party_is_handed(1, one);
+    queue_is(two, three, 0);
+    party_is_handed(1, 0);
+    queue_is(two, three, 0);
+    party_is_handed(2, two);
+    queue_is(three, 0, 0);
+    party_is_handed(1, 0);
+    party_is_handed(2, three);
+    party_is_handed(2, 0);
+    queue_is(0, 0, 0);
+    queue_in_order(2, (uint32_t[]){one, two, three});
+    party_is_handed(2, three);
+    queue_is(one, two, 0);
+    party_is_handed(2, 0);
+    party_is_handed(1, one);
+    party_is_handed(1, two);
+    queue_in_order(2, (uint32_t[]){three, two, one});
+    party_is_handed(1, two);
+    queue_is(three, one, 0);
+    party_is_handed(1, one);
+    queue_is(three, 0, 0);
+    party_is_handed(1, 0);
+    party_is_handed(2, three);
+    queue_in_order(1, (uint32_t[]){one, three, two});
+    party_is_handed(2, three);
+    queue_is(one, two, 0);
+    party = 1;
+    is("cancel of the one ahead", 0, cancel(one));
+    party_is_handed(2, two);
+    party_is_handed(2, 0);
+}
+
+/* Ticks and dates are common: timers of both fire in one order, by their starts. */
+static void firing_of_both(void)
+{
+    is("lay out", 0, lay_out_split(SLOTS, 10, 1));
+    for (uint32_t index = 1; index <= SLOTS; index++)
+        party_creates(index == 1 ? 1 : 2, index, 0, ID_BASE + index);
+    party = 2;
+    is("fire after 2", 0, fire_after(three, 2, 9, 90));
+    party = 1;
+    is("fire after 2", 0, fire_after(one, 2, 7, 70));
+    party = 2;
+    is("fire every 2", 0, fire_every(two, 2, 8, 80));
+    party = 1;
+    next_is("for the bench, of both", 2);
+    nothing_fires(1);
+    fires(three, one, two);
+    nothing_fires(1);
+    fires(two, 0, 0);
+    leaps_to(5, 2, two);
+}
+
 int main(void)
 {
     begin("edges", 0);
@@ -1566,6 +1895,14 @@ int main(void)
     leap_at_the_end();
     leap_to_periodic();
     leaps_add_up();
+    splits_of_lay_out();
+    splits_of_sound_tables();
+    no_such_party();
+    ids_of_both();
+    place_of_anothers_id();
+    slots_and_names_of_both();
+    serves_of_both();
+    firing_of_both();
     printf("edges: %u checks\n", checks);
     return 0;
 }

@@ -29,6 +29,20 @@ uint32_t random_ticks_per_second(void)
     return one_in(4) ? 1 + below(MAX_TICKS_PER_SECOND) : ONE_OF(usual);
 }
 
+uint32_t random_split(uint32_t slots)
+{
+    if (slots < 2 || one_in(2))
+        return 0;
+    switch (below(4)) {
+    case 0:
+        return 1;
+    case 1:
+        return slots - 1;
+    default:
+        return 1 + below(slots - 1);
+    }
+}
+
 /* How far ahead most starts are due, in ticks or seconds: short spans give many equals, long ones many waiting. */
 static uint32_t span = 5;
 
@@ -58,6 +72,30 @@ static uint32_t random_number(void)
     return one_in(3) ? random_word() : ONE_OF(ends);
 }
 
+/* Mostly a party that there is; for a serve often the one that is not first in the queue. */
+static uint32_t random_party(const struct oracle *o, enum call_kind kind)
+{
+    if (one_in(12))
+        return one_in(6) ? random_number() : below(4);
+    if (o->split == 0)
+        return 1;
+    if (kind == SERVE && o->queued > 0 && !one_in(4))
+        return oracle_party_has(o, 1, o->queue[0]) ? 2 : 1;
+    return 1 + below(2);
+}
+
+/* Mostly a slot of the party's, at times the other's, and often one beside the split. */
+static uint32_t random_index(const struct oracle *o, uint32_t party)
+{
+    if (o->split == 0 || party < 1 || party > 2)
+        return 1 + below(o->slots);
+    if (one_in(8))
+        party = 3 - party;
+    if (one_in(6))
+        return party == 1 ? o->split : o->split + 1;
+    return party == 1 ? 1 + below(o->split) : o->split + 1 + below(o->slots - o->split);
+}
+
 /* A queued timer, at one of the ends or, as often, between them. */
 static uint32_t queued_index(const struct oracle *o)
 {
@@ -66,13 +104,13 @@ static uint32_t queued_index(const struct oracle *o)
     return o->queue[one_in(2) ? 0 : o->queued - 1];
 }
 
-static uint32_t random_id(const struct oracle *o)
+static uint32_t random_id(const struct oracle *o, uint32_t party)
 {
-    uint32_t index = 1 + below(o->slots);
+    uint32_t index = random_index(o, party);
     if (o->queued > 0 && one_in(o->queued < queue_wanted ? 16 : 2))
         return ID_BASE + queued_index(o);
     for (int tries = 0; tries < 8 && !o->timer[index].exists; tries++)
-        index = 1 + below(o->slots);
+        index = random_index(o, party);
     if (!one_in(9))
         return ID_BASE + index;
     switch (below(7)) {
@@ -103,12 +141,12 @@ static bool idle(const struct oracle *o, uint32_t index)
 }
 
 /* Of an idle timer, if a few tries find one. */
-static uint32_t random_idle_id(const struct oracle *o)
+static uint32_t random_idle_id(const struct oracle *o, uint32_t party)
 {
-    uint32_t index = 1 + below(o->slots);
+    uint32_t index = random_index(o, party);
     for (int tries = 0; tries < 16 && !idle(o, index); tries++)
-        index = 1 + below(o->slots);
-    return idle(o, index) ? ID_BASE + index : random_id(o);
+        index = random_index(o, party);
+    return idle(o, index) ? ID_BASE + index : random_id(o, party);
 }
 
 static uint32_t random_name(void)
@@ -345,8 +383,9 @@ void random_call(const struct oracle *o, struct call *c)
     memset(c, 0, sizeof *c);
     c->kind = random_kind(o);
     c->fired_words = c->kind == SERVE ? random_serve_list_length() : random_list_length(o->slots);
+    c->party = random_party(o, c->kind);
     c->name = random_name();
-    c->id = c->kind == CANCEL && one_in(3) ? random_idle_id(o) : random_id(o);
+    c->id = c->kind == CANCEL && one_in(3) ? random_idle_id(o, c->party) : random_id(o, c->party);
     c->ticks = c->kind == LEAP ? random_leap(o) : random_ticks(o);
     afford_leap(o, c);
     c->routine = one_in(8) ? random_number() : 1 + below(9);
@@ -367,6 +406,9 @@ void random_lay_out(uint32_t most, size_t capacity, struct call *c)
         c->slots = one_in(3) ? random_number() : one_in(2) ? 0 : MAX_SLOTS + 1 + below(2);
     if (one_in(6))
         c->ticks_per_second = one_in(3) ? random_number() : one_in(2) ? 0 : MAX_TICKS_PER_SECOND + 1 + below(2);
+    c->split = random_split(c->slots);
+    if (one_in(6))
+        c->split = one_in(2) ? c->slots + below(2) : one_in(2) ? UINT32_MAX : random_number();
     if (one_in(3) && c->slots <= most)
         c->words = table_words(c->slots) - 1 + below(2);
     else if (one_in(6))
@@ -414,6 +456,7 @@ void random_state_of(struct oracle *o)
     memset(o, 0, sizeof *o);
     o->slots = random_slots();
     o->ticks_per_second = random_ticks_per_second();
+    o->split = random_split(o->slots);
     o->initiated = !one_in(4);
     o->clock_set = !one_in(4);
     if (o->clock_set) {

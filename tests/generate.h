@@ -23,6 +23,9 @@ uint32_t random_leap(const struct oracle *state);
 /* Makes the ticks of a leap few where single ticks of the oracle's, which it counts, would take too long. */
 void afford_leap(const struct oracle *state, struct call *call);
 
+/* 0, or how many of so many slots party 1 has. */
+uint32_t random_split(uint32_t slots);
+
 /* A lay out of a table of at most so many slots, or one that is to be refused. */
 void random_lay_out(uint32_t most, size_t capacity, struct call *call);
 

@@ -4,7 +4,9 @@
 
 #include <ctype.h>
 #include <errno.h>
+#include <float.h>
 #include <inttypes.h>
+#include <math.h>
 #include <setjmp.h>
 #include <signal.h>
 #include <stdarg.h>
@@ -73,6 +75,27 @@ enum call_kind weighted_call(const uint32_t weights[CALLS])
     return (enum call_kind)kind;
 }
 
+/* The product is exact. */
+uint32_t ticks_of_seconds(double seconds, uint32_t ticks_per_second)
+{
+    enum { RATE_DIGITS = 10 };
+    _Static_assert(MAX_TICKS_PER_SECOND < 1 << RATE_DIGITS && LDBL_MANT_DIG >= DBL_MANT_DIG + RATE_DIGITS, "no digit is lost");
+    long double ticks = (long double)seconds * ticks_per_second;
+    if (!(ticks > 0 && ticks <= UINT32_MAX))
+        return 0;
+    uint32_t whole = (uint32_t)ticks;
+    return whole < ticks ? whole + 1 : whole;
+}
+
+/* Seconds of which so many ticks come, if that can be, are mostly a part of a tick less. */
+void tell_in_seconds(struct call *c, uint32_t ticks_per_second)
+{
+    static const double none[] = {0, -0.0, NAN, INFINITY, -INFINITY, -1, 5e9};
+    c->in_seconds = true;
+    c->seconds = c->ticks == 0 || one_in(16) ? ONE_OF(none) : (c->ticks - below(4) / 4.0) / ticks_per_second;
+    c->ticks = ticks_of_seconds(c->seconds, ticks_per_second);
+}
+
 /* The more work the less often, so that all leaps together take no longer than as many short ones; and a few of the longest
  * besides, so that a short run has them too. */
 bool affordable(uint64_t ticks, uint64_t ticks_to_due, uint64_t looked_at)
@@ -99,7 +122,7 @@ static void fill_randomly(struct lent *memory)
     memcpy(memory->base, memory->expected, memory->total * sizeof(uint32_t));
 }
 
-static void lend_pages(struct lent *memory, size_t pages)
+void lend_pages(struct lent *memory, size_t pages)
 {
     size_t page = (size_t)sysconf(_SC_PAGESIZE), bytes = pages * page, closed = CLOSED_PAGES * page;
     char *at = mmap(NULL, closed + bytes + closed, PROT_NONE, MAP_PRIVATE | MAP_ANONYMOUS, -1, 0);
@@ -130,6 +153,60 @@ uint32_t *expected_of(const struct lent *memory, const uint32_t *word)
     return memory->expected + (word - memory->base);
 }
 
+uint32_t *lend_words(const struct lent *memory, const uint32_t *words, size_t count, bool at_start)
+{
+    uint32_t *at = slice_of(memory, count, at_start);
+    memcpy(at, words, count * sizeof *words);
+    memcpy(expected_of(memory, at), words, count * sizeof *words);
+    return at;
+}
+
+/* The first word of the memory that is not as expected; NULL if all are. */
+static const uint32_t *difference(const struct lent *memory)
+{
+    if (memcmp(memory->base, memory->expected, memory->total * sizeof(uint32_t)) == 0)
+        return NULL;
+    size_t i = 0;
+    while (memory->base[i] == memory->expected[i])
+        i++;
+    return memory->base + i;
+}
+
+void compare_memory(const struct lent *memory, const uint32_t *slice, const char *what)
+{
+    const uint32_t *word = difference(memory);
+    if (word != NULL)
+        fail("%s word %td: expected %" PRIu32 ", came %" PRIu32, what, word - slice, *expected_of(memory, word), *word);
+}
+
+static void name_word(ptrdiff_t word, char *text, size_t size)
+{
+    static const char *const header[HEADER_WORDS] = {
+        "slot count", "ticks in a second", "clock set", "seconds", "ticks into the second", "first of the interval chain",
+        "first of the dated chain", "split", "server initiated", "first of the queue"};
+    static const char *const fields[SLOT_WORDS] = {"kind",    "name",      "interval", "wait",
+                                                   "routine", "user data", "next",     "previous"};
+    if (word < 0)
+        snprintf(text, size, "%td words before the table", -word);
+    else if (word < HEADER_WORDS)
+        snprintf(text, size, "table word %td (%s)", word, header[word]);
+    else
+        snprintf(text, size, "table word %td (slot %td %s)", word, (word - HEADER_WORDS) / SLOT_WORDS + 1,
+                 fields[(word - HEADER_WORDS) % SLOT_WORDS]);
+}
+
+enum { WORD_TEXT = 120 };
+
+void compare_table(const struct lent *memory, const uint32_t *words, const char *which)
+{
+    const uint32_t *word = difference(memory);
+    if (word == NULL)
+        return;
+    char text[WORD_TEXT];
+    name_word(word - words, text, sizeof text);
+    fail("%s%s: expected %" PRIu32 ", came %" PRIu32, which, text, *expected_of(memory, word), *word);
+}
+
 /* ---- Failure ---- */
 
 struct place place;
@@ -141,14 +218,27 @@ void describe_time(const struct hc_wall_time *t, char text[TIME_TEXT])
              t->month, t->day, t->hour, t->minute, t->second, t->ticks);
 }
 
+static bool in_seconds(const struct call *c) { return c->kind == FIRE_AFTER && c->in_seconds; }
+
+enum { DELAY_TEXT = 60 };
+
+static void describe_delay(const struct call *c, char text[DELAY_TEXT])
+{
+    if (in_seconds(c))
+        snprintf(text, DELAY_TEXT, "%.17g seconds", c->seconds);
+    else
+        snprintf(text, DELAY_TEXT, "ticks %" PRIu32, c->ticks);
+}
+
 /* The arguments after the table's. */
 static void describe_arguments(const struct call *c, char *text, size_t size)
 {
-    char time[TIME_TEXT];
+    char time[TIME_TEXT], delay[DELAY_TEXT];
     describe_time(&c->time, time);
     switch (c->kind) {
     case LAY_OUT:
-        snprintf(text, size, ", slots %" PRIu32 ", ticks_per_second %" PRIu32, c->slots, c->ticks_per_second);
+        snprintf(text, size, ", slots %" PRIu32 ", ticks_per_second %" PRIu32 ", split %" PRIu32, c->slots, c->ticks_per_second,
+                 c->split);
         break;
     case CREATE:
     case IDENT:
@@ -163,8 +253,8 @@ static void describe_arguments(const struct call *c, char *text, size_t size)
     case FIRE_AFTER:
     case FIRE_EVERY:
     case SERVER_FIRE_AFTER:
-        snprintf(text, size, ", id 0x%" PRIx32 ", ticks %" PRIu32 ", routine %" PRIu32 ", data %" PRIu32, c->id, c->ticks,
-                 c->routine, c->data);
+        describe_delay(c, delay);
+        snprintf(text, size, ", id 0x%" PRIx32 ", %s, routine %" PRIu32 ", data %" PRIu32, c->id, delay, c->routine, c->data);
         break;
     case FIRE_WHEN:
     case SERVER_FIRE_WHEN:
@@ -192,9 +282,12 @@ enum { CALL_TEXT = 400 };
 
 static void describe_call(const struct call *c, char text[CALL_TEXT])
 {
-    char arguments[CALL_TEXT / 2];
+    char arguments[CALL_TEXT / 2], party[CALL_TEXT / 8] = "";
     describe_arguments(c, arguments, sizeof arguments);
-    snprintf(text, CALL_TEXT, "%s(%zu words%s)", call_names[c->kind], c->words, arguments);
+    if (oracle_takes_party(c->kind))
+        snprintf(party, sizeof party, ", party %" PRIu32, c->party);
+    const char *name = in_seconds(c) ? "fire_after_seconds" : call_names[c->kind];
+    snprintf(text, CALL_TEXT, "%s(%zu words%s%s)", name, c->words, party, arguments);
 }
 
 static void print_place(void)
@@ -207,6 +300,8 @@ static void print_place(void)
         describe_call(place.call, text);
         printf(": %s", text);
     }
+    if (place.describe)
+        printf(": %s", place.describe());
     printf(": ");
 }
 
@@ -287,14 +382,31 @@ void begin(const char *program, uint64_t seed)
     }
 }
 
+/* ---- Answers ---- */
+
+_Static_assert(offsetof(struct answer, word) == offsetof(struct answer, time) && offsetof(struct answer, word) == BESIDE,
+               "the bytes before an answer end where it begins");
+
+void ready_answer(struct answer *answer)
+{
+    enum { FIRST_BYTE = 0xa0 };
+    unsigned char *bytes = (unsigned char *)answer;
+    for (size_t i = 0; i < sizeof *answer; i++)
+        bytes[i] = (unsigned char)(FIRST_BYTE + i);
+}
+
+void compare_beside(const struct answer *answer, size_t answered)
+{
+    struct answer expected;
+    ready_answer(&expected);
+    memcpy((unsigned char *)&expected + BESIDE, (const unsigned char *)answer + BESIDE, answered);
+    if (memcmp(answer, &expected, sizeof expected) != 0)
+        fail("expected the bytes beside an answer to stay, came a change");
+}
+
 /* ---- Calls ---- */
 
-enum { BESIDE = 2 };
-
-/* The words for answers, each with others before and after it that must stay. */
-static uint32_t answers[BESIDE + 1 + BESIDE], dones[BESIDE + 1 + BESIDE];
-static int64_t moves[BESIDE + 1 + BESIDE];
-static struct hc_wall_time times[BESIDE + 1 + BESIDE];
+static struct answer answer, done, moved, wall;
 
 /* A call with the words lent for it. */
 struct lent_call {
@@ -307,47 +419,48 @@ static uint32_t call_library(const void *arguments)
     const struct lent_call *lent = arguments;
     const struct call *c = lent->call;
     uint32_t *table = lent->table, *list = lent->list;
-    uint32_t *answer = &answers[BESIDE];
-    struct hc_wall_time *time = &times[BESIDE];
+    struct hc_wall_time *time = &wall.time;
     switch (c->kind) {
     case LAY_OUT:
-        return hc_lay_out(table, c->words, c->slots, c->ticks_per_second);
+        return hc_lay_out(table, c->words, c->slots, c->ticks_per_second, c->split);
     case CREATE:
-        return hc_create(table, c->words, c->name, answer);
+        return hc_create(table, c->words, c->party, c->name, &answer.word);
     case IDENT:
-        return hc_ident(table, c->words, c->name, answer);
+        return hc_ident(table, c->words, c->party, c->name, &answer.word);
     case CANCEL:
-        return hc_cancel(table, c->words, c->id);
+        return hc_cancel(table, c->words, c->party, c->id);
     case DELETE:
-        return hc_delete(table, c->words, c->id);
+        return hc_delete(table, c->words, c->party, c->id);
     case FIRE_AFTER:
-        return hc_fire_after(table, c->words, c->id, c->ticks, c->routine, c->data);
+        if (c->in_seconds)
+            return hc_fire_after_seconds(table, c->words, c->party, c->id, c->seconds, c->routine, c->data);
+        return hc_fire_after(table, c->words, c->party, c->id, c->ticks, c->routine, c->data);
     case FIRE_WHEN:
-        return hc_fire_when(table, c->words, c->id, time, c->routine, c->data);
+        return hc_fire_when(table, c->words, c->party, c->id, time, c->routine, c->data);
     case FIRE_EVERY:
-        return hc_fire_every(table, c->words, c->id, c->ticks, c->routine, c->data);
+        return hc_fire_every(table, c->words, c->party, c->id, c->ticks, c->routine, c->data);
     case RESET:
-        return hc_reset(table, c->words, c->id);
+        return hc_reset(table, c->words, c->party, c->id);
     case TICKS_LEFT:
-        return hc_ticks_left(table, c->words, c->id, answer);
+        return hc_ticks_left(table, c->words, c->party, c->id, &answer.word);
     case TICK:
-        return hc_tick(table, c->words, list, c->fired_words, answer);
+        return hc_tick(table, c->words, list, c->fired_words, &answer.word);
     case SET_CLOCK:
-        return hc_set_clock(table, c->words, time, list, c->fired_words, answer, &moves[BESIDE]);
+        return hc_set_clock(table, c->words, time, list, c->fired_words, &answer.word, &moved.moved);
     case GET_CLOCK:
         return hc_get_clock(table, c->words, time);
     case NEXT_DUE:
-        return hc_next_due(table, c->words, answer);
+        return hc_next_due(table, c->words, &answer.word);
     case INITIATE_SERVER:
         return hc_initiate_server(table, c->words);
     case SERVER_FIRE_AFTER:
-        return hc_server_fire_after(table, c->words, c->id, c->ticks, c->routine, c->data);
+        return hc_server_fire_after(table, c->words, c->party, c->id, c->ticks, c->routine, c->data);
     case SERVER_FIRE_WHEN:
-        return hc_server_fire_when(table, c->words, c->id, time, c->routine, c->data);
+        return hc_server_fire_when(table, c->words, c->party, c->id, time, c->routine, c->data);
     case SERVE:
-        return hc_serve(table, c->words, list, c->fired_words, answer);
+        return hc_serve(table, c->words, c->party, list, c->fired_words, &answer.word);
     case LEAP:
-        return hc_leap(table, c->words, c->ticks, list, c->fired_words, &dones[BESIDE], answer);
+        return hc_leap(table, c->words, c->ticks, list, c->fired_words, &done.word, &answer.word);
     }
     abort();    /* there is no such call */
 }
@@ -371,90 +484,32 @@ static bool has_answer(enum call_kind kind)
            kind == SERVE || kind == LEAP;
 }
 
+static void compare_all_beside(enum call_kind kind)
+{
+    compare_beside(&answer, has_answer(kind) ? sizeof answer.word : 0);
+    compare_beside(&done, kind == LEAP ? sizeof done.word : 0);
+    compare_beside(&moved, kind == SET_CLOCK ? sizeof moved.moved : 0);
+    compare_beside(&wall, sizeof wall.time);
+}
+
 void perform(const struct call *c, uint32_t *table, uint32_t *list, struct came *came)
 {
-    uint32_t answers_before[BESIDE + 1 + BESIDE], dones_before[BESIDE + 1 + BESIDE];
-    int64_t moves_before[BESIDE + 1 + BESIDE];
-    struct hc_wall_time times_before[BESIDE + 1 + BESIDE];
-    for (int i = 0; i < BESIDE + 1 + BESIDE; i++)
-        answers[i] = 0xdeadbeefu + (uint32_t)i, dones[i] = 0xfeedbeefu + (uint32_t)i;
-    memset(moves, 0x5a, sizeof moves);
-    memset(times, 0xa5, sizeof times);
+    *came = (struct came){.status = 0};
+    ready_answer(&answer), ready_answer(&done), ready_answer(&moved), ready_answer(&wall);
     if (c->kind != GET_CLOCK)
-        times[BESIDE] = c->time;
-    memcpy(answers_before, answers, sizeof answers);
-    memcpy(dones_before, dones, sizeof dones);
-    memcpy(moves_before, moves, sizeof moves);
-    memcpy(times_before, times, sizeof times);
-
+        memcpy(&wall.time, &c->time, sizeof c->time);
     came->status = watched(call_library, &(struct lent_call){c, table, list});
-
-    came->answer = has_answer(c->kind) ? answers[BESIDE] : 0;
-    came->moved = c->kind == SET_CLOCK ? moves[BESIDE] : 0;
-    came->done = c->kind == LEAP ? dones[BESIDE] : 0;
-    came->clock = (struct hc_wall_time){0, 0, 0, 0, 0, 0, 0};
+    compare_all_beside(c->kind);
+    if (c->kind != GET_CLOCK && memcmp(&wall.time, &c->time, sizeof c->time) != 0)
+        fail("expected the wall time given to stay, came a change");
     if (has_answer(c->kind))
-        answers_before[BESIDE] = answers[BESIDE];
-    if (c->kind == SET_CLOCK)
-        moves_before[BESIDE] = moves[BESIDE];
+        came->answer = answer.word;
     if (c->kind == LEAP)
-        dones_before[BESIDE] = dones[BESIDE];
+        came->done = done.word;
+    if (c->kind == SET_CLOCK)
+        came->moved = moved.moved;
     if (c->kind == GET_CLOCK)
-        came->clock = times_before[BESIDE] = times[BESIDE];
-    came->beside = memcmp(answers, answers_before, sizeof answers) != 0 || memcmp(dones, dones_before, sizeof dones) != 0 ||
-                   memcmp(moves, moves_before, sizeof moves) != 0 || memcmp(times, times_before, sizeof times) != 0;
-}
-
-static void name_word(ptrdiff_t word, char *text, size_t size)
-{
-    static const char *const header[HEADER_WORDS] = {
-        "slot count", "ticks in a second", "clock set", "seconds", "ticks into the second", "first of the interval chain",
-        "first of the dated chain", "zero", "server initiated", "first of the queue"};
-    static const char *const fields[SLOT_WORDS] = {"kind",    "name",      "interval", "wait",
-                                                   "routine", "user data", "next",     "previous"};
-    if (word < 0)
-        snprintf(text, size, "%td words before the table", -word);
-    else if (word < HEADER_WORDS)
-        snprintf(text, size, "table word %td (%s)", word, header[word]);
-    else
-        snprintf(text, size, "table word %td (slot %td %s)", word, (word - HEADER_WORDS) / SLOT_WORDS + 1,
-                 fields[(word - HEADER_WORDS) % SLOT_WORDS]);
-}
-
-/* The first word of the memory that is not as expected; NULL if all are. */
-static const uint32_t *difference(const struct lent *memory)
-{
-    if (memcmp(memory->base, memory->expected, memory->total * sizeof(uint32_t)) == 0)
-        return NULL;
-    size_t i = 0;
-    while (memory->base[i] == memory->expected[i])
-        i++;
-    return memory->base + i;
-}
-
-enum { WORD_TEXT = 120 };
-
-static void compare_table(const char *which, const struct lent *memory, const uint32_t *words)
-{
-    const uint32_t *word = difference(memory);
-    if (word == NULL)
-        return;
-    char text[WORD_TEXT];
-    name_word(word - words, text, sizeof text);
-    fail("%s%s: expected %" PRIu32 ", came %" PRIu32, which, text, *expected_of(memory, word), *word);
-}
-
-void compare_other(const struct lent *memory, const uint32_t *words)
-{
-    compare_table("in another table, ", memory, words);
-}
-
-static void compare_list(void)
-{
-    const uint32_t *word = difference(&list_memory);
-    if (word != NULL)
-        fail("list word %td: expected %" PRIu32 ", came %" PRIu32, word - place.list, *expected_of(&list_memory, word),
-             *word);
+        came->clock = wall.time;
 }
 
 static void compare(const struct came *came, const struct outcome *expected)
@@ -476,22 +531,22 @@ static void compare(const struct came *came, const struct outcome *expected)
         describe_time(&came->clock, given);
         fail("status %" PRIu32 ": expected %s, came %s", came->status, wanted, given);
     }
-    if (came->beside)
-        fail("expected the words beside the answers and the wall time given to stay, came a change");
-    compare_table("", place.memory, place.words);
-    compare_list();
+    compare_table(place.memory, place.words, "");
+    compare_memory(&list_memory, place.list, "list");
 }
 
 /* ---- What was met ---- */
 
 enum { STATUSES = 102 };
 static uint64_t by_status[CALLS][STATUSES], by_reason[CALLS][REASONS];
-static bool by_pair[CALLS][STATUSES][STATUSES];
+static bool by_pair[CALLS][STATUSES][STATUSES];     /* by their numbers in the orders of refusal */
 static bool taken_by_kind[CALLS][KINDS], refused_by_kind[CALLS][KINDS];    /* with the id of a timer of the kind */
 static uint32_t turns_met[CALLS], date_cases_met[CALLS];
 static uint64_t leap_cases_met;
 static bool taken_off[CALLS][KINDS][QUEUE_PLACES];
 static bool cancels_met[KINDS][EVENTS];     /* accepted or refused with 14, by what befell the timer last */
+static uint32_t party_cases_met[CALLS];
+static bool others_met[CALLS][KINDS];       /* refused with the id of the other party's timer of the kind */
 
 /* Serves by the timers queued before and the words of list, where all above the last are the same. */
 enum { QUEUE_LENGTHS = 4, SERVE_LISTS = FIRED_WORDS + 3 };
@@ -520,11 +575,14 @@ static void note(const struct call *c, const struct outcome *outcome, const stru
         cancels_met[outcome->timer_kind][outcome->last_event] = true;
     if (kind == SERVE)
         note_serve(c, outcome);
-    else if (accepted)
+    if (accepted)
         taken_off[kind][outcome->timer_kind][outcome->queue_place] = true;
+    party_cases_met[kind] |= outcome->party_cases;
+    if (outcome->reason == ID_OF_OTHER)
+        others_met[kind][outcome->others_kind] = true;
     for (int reason = 1; reason < REASONS; reason++)
         if (outcome->applying >> reason & 1)
-            by_pair[kind][outcome->status][reason_statuses[reason]] = true;
+            by_pair[kind][oracle_refusal(outcome->reason)][oracle_refusal((enum reason)reason)] = true;
 }
 
 /* What an accepted call leaves becomes what table and list should be. Next due changes no word, whatever the table holds. */
@@ -565,8 +623,8 @@ static unsigned pairs_not_met(int kind)
     for (uint32_t first = 1; first < STATUSES; first++)
         for (uint32_t second = 1; second < STATUSES; second++)
             if (oracle_pair_possible((enum call_kind)kind, first, second) && !by_pair[kind][first][second]) {
-                printf("  not met: %s refused with %" PRIu32 " where %" PRIu32 " applies too\n", call_names[kind], first,
-                       second);
+                printf("  not met: %s refused with %" PRIu32 " where %" PRIu32 " applies too (%d: 4 for the party)\n",
+                       call_names[kind], first, second, WRONG_PARTY);
                 missing++;
             }
     return missing;
@@ -668,6 +726,31 @@ unsigned cancels_not_met(void)
         for (uint32_t timer = 0; timer < KINDS; timer++)
             if (oracle_kind_after((enum event)event, timer) && !cancels_met[timer][event]) {
                 printf("  not met: cancel of a timer of kind %" PRIu32 ", last %s\n", timer, event_texts[event]);
+                missing++;
+            }
+    return missing;
+}
+
+unsigned parties_not_met(void)
+{
+    unsigned missing = 0;
+    for (int kind = 0; kind < CALLS; kind++)
+        for (int party_case = 0; party_case < PARTY_CASES; party_case++)
+            if (oracle_party_case_possible((enum call_kind)kind, (enum party_case)party_case) &&
+                !(party_cases_met[kind] >> party_case & 1)) {
+                printf("  not met: %s in which %s\n", call_names[kind], party_case_texts[party_case]);
+                missing++;
+            }
+    return missing;
+}
+
+unsigned others_not_met(void)
+{
+    unsigned missing = 0;
+    for (int kind = 0; kind < CALLS; kind++)
+        for (uint32_t timer = KIND_NEVER_STARTED; timer < KINDS; timer++)
+            if (oracle_takes_id((enum call_kind)kind) && !others_met[kind][timer]) {
+                printf("  not met: %s of the other party's timer of kind %" PRIu32 "\n", call_names[kind], timer);
                 missing++;
             }
     return missing;

@@ -1,8 +1,8 @@
 /* Histories: what must fire, be queued and be handed out, what there is to cancel, and how far the clock is moved, is kept
  * from the calls and their statuses alone, as absolute ticks and dates and numbers of serves, in the words of the
- * specification's claim about whole lists of calls; the calendar is the C library's. No table is looked at, but for that
- * claim's last sentence: the chains give the waiting timers in firing order by next, and in reverse by previous; and so does
- * the queue those that are queued.
+ * specification's claim about whole lists of calls; the calendar is the C library's. A party's place in the queue, its serves
+ * and the timers taken off ahead are its own. No table is looked at, but for that claim's last sentence: the chains give the
+ * waiting timers in firing order by next, and in reverse by previous; and so does the queue those that are queued.
  * Arguments: seed, number of calls. */
 #include "harness.h"
 #include "libc_calendar.h"
@@ -33,12 +33,17 @@ static enum ending ending[MAX_SLOTS + 1];
 
 static uint64_t ticks, clock_ticks;     /* accepted ticks since lay out; the clock, counted in ticks */
 static bool clock_set;
-static uint32_t slots, ticks_per_second;
+static uint32_t slots, ticks_per_second, split;
 
-/* Accepted serves since lay out, and by slot the number of the one that hands the queued timer out: its place in the queue
- * after those made when it was queued, one sooner for each taken off ahead of it; 0 where it is not queued. */
-static uint64_t serves, handed_by[MAX_SLOTS + 1];
+/* Accepted serves of each party since lay out, and by slot the number of the one that hands the queued timer out: its place
+ * among its party's in the queue after those made when it was queued, one sooner for each of them taken off ahead of it; 0
+ * where it is not queued. */
+enum { PARTIES = 2 };
+static uint64_t serves[PARTIES + 1], handed_by[MAX_SLOTS + 1];
 static bool initiated, sooner[MAX_SLOTS + 1];
+
+/* Those that are queued, of both parties, in the order in which they came to be. */
+static uint32_t queue[MAX_SLOTS], queued;
 
 /* Set clocks by what they answer of the clock, and refused for their ticks alone. */
 enum setting { SET_AT_FIRST, MOVED_BY_NONE, MOVED_ON, MOVED_BACK, REFUSED_FOR_TICKS, SETTINGS };
@@ -51,33 +56,59 @@ static uint64_t leaps[LEAPINGS];
 
 static uint64_t due_in_all;             /* timers that fired or were queued */
 static uint64_t calls, fired_in_all, fired_again, served_in_all, served_sooner, accepted[CALLS], nothing_after[ENDINGS];
+static uint64_t served_past, none_of_own;   /* serves with others of the other party's ahead, and with no others queued */
+static uint64_t no_party, of_other;     /* calls refused for their party, and for the id of the other party's timer */
+static uint64_t accepted_of[PARTIES + 1], one_party_calls, in_seconds[2];
 static uint64_t none_due, some_due;      /* calls of next due where no timer waits for ticks, and where one does */
 static uint32_t span;
 static bool with_server;                /* whether it is to be initiated */
 
-/* ---- The queue ---- */
+/* ---- The parties and the queue ---- */
 
-static uint32_t queue_length(void)
+/* Slots 1 to the split are party 1's, the rest party 2's; without one all are party 1's. */
+static uint32_t party_of(uint32_t index)
+{
+    return split != 0 && index > split ? 2 : 1;
+}
+
+static bool is_party(uint32_t party)
+{
+    return party == 1 || (party == 2 && split != 0);
+}
+
+static uint32_t queued_of(uint32_t party)
 {
     uint32_t count = 0;
-    for (uint32_t i = 1; i <= slots; i++)
-        count += handed_by[i] != 0;
+    for (uint32_t k = 0; k < queued; k++)
+        count += party_of(queue[k]) == party;
     return count;
 }
 
 static void enqueue(uint32_t id)
 {
-    uint32_t place_in_queue = queue_length() + 1;
-    handed_by[id - ID_BASE] = serves + place_in_queue;
-    sooner[id - ID_BASE] = false;
+    uint32_t index = id - ID_BASE, party = party_of(index), place_of_own = queued_of(party) + 1;
+    handed_by[index] = serves[party] + place_of_own;
+    sooner[index] = false;
+    queue[queued++] = index;
+}
+
+static void leave_queue(uint32_t index)
+{
+    uint32_t left = 0;
+    handed_by[index] = 0;
+    for (uint32_t k = 0; k < queued; k++)
+        if (queue[k] != index)
+            queue[left++] = queue[k];
+    queued = left;
 }
 
 static void take_off(uint32_t id)
 {
-    uint64_t taken = handed_by[id - ID_BASE];
-    handed_by[id - ID_BASE] = 0;
+    uint32_t index = id - ID_BASE;
+    uint64_t taken = handed_by[index];
+    leave_queue(index);
     for (uint32_t i = 1; taken != 0 && i <= slots; i++)
-        if (handed_by[i] > taken)
+        if (handed_by[i] > taken && party_of(i) == party_of(index))
             handed_by[i]--, sooner[i] = true;
 }
 
@@ -205,10 +236,11 @@ static uint32_t fire_dated(uint64_t second, uint32_t *list)
 
 static void forget_all(const struct call *c)
 {
-    waiting_count = 0, ticks = 0, clock_set = false, initiated = false, serves = 0;
+    waiting_count = 0, ticks = 0, clock_set = false, initiated = false, queued = 0;
     memset(exists, 0, sizeof exists);
+    memset(serves, 0, sizeof serves);
     memset(handed_by, 0, sizeof handed_by);
-    slots = c->slots, ticks_per_second = c->ticks_per_second;
+    slots = c->slots, ticks_per_second = c->ticks_per_second, split = c->split;
 }
 
 static void expect_list(const struct came *came, const uint32_t *list, uint32_t count, const uint32_t *before,
@@ -284,17 +316,20 @@ static uint32_t after_set_clock(const struct call *c, const struct came *came, u
     return fire_dated(clock_ticks / ticks_per_second, list);
 }
 
-/* Hands out the timer whose serve this is. */
-static uint32_t after_serve(uint32_t *list)
+/* Hands out the party's timer whose serve this is. */
+static uint32_t after_serve(uint32_t party, uint32_t *list)
 {
-    serves++;
+    serves[party]++;
     for (uint32_t i = 1; i <= slots; i++)
-        if (handed_by[i] == serves) {
+        if (handed_by[i] == serves[party] && party_of(i) == party) {
+            served_past += queue[0] != i;
             enter(list, 0, &last[i]);
-            handed_by[i] = 0, ending[i] = BY_SERVE;
+            leave_queue(i);
+            ending[i] = BY_SERVE;
             served_in_all++, served_sooner += sooner[i];
             return 1;
         }
+    none_of_own += queued > 0;
     return 0;
 }
 
@@ -333,15 +368,16 @@ static void expect_clock(const struct came *came)
         fail("expected %s, came %s", wanted, given);
 }
 
-static bool names_timer(uint32_t id)
+static bool names_timer(const struct call *c)
 {
-    return id > ID_BASE && id - ID_BASE <= slots && exists[id - ID_BASE];
+    uint32_t index = c->id - ID_BASE;
+    return c->id > ID_BASE && index <= slots && exists[index] && party_of(index) == c->party;
 }
 
-static void expect_timer(uint32_t id)
+static void expect_timer(const struct call *c)
 {
-    if (!names_timer(id))
-        fail("expected a refusal, since the id names no timer, came status 0");
+    if (!names_timer(c))
+        fail("expected a refusal, since the id names no timer of the party's, came status 0");
 }
 
 /* A start of that timer has not ended, or it is queued. */
@@ -354,17 +390,31 @@ static bool waits_or_is_queued(uint32_t id)
 }
 
 /* Whether a cancel is accepted is known from the calls before it. */
-static void expect_cancel(uint32_t id, uint32_t status)
+static void expect_cancel(const struct call *c, uint32_t status)
 {
     uint32_t expected = HC_SUCCESSFUL;
-    if (!names_timer(id))
+    if (!names_timer(c))
         expected = HC_INVALID_ID;
-    else if (!waits_or_is_queued(id))
+    else if (!waits_or_is_queued(c->id))
         expected = HC_INCORRECT_STATE;
     if (status != expected)
         fail("expected status %" PRIu32 " by the calls before, came %" PRIu32, expected, status);
     if (status == HC_INCORRECT_STATE)
-        nothing_after[ending[id - ID_BASE]]++;
+        nothing_after[ending[c->id - ID_BASE]]++;
+}
+
+/* Where there is no such party nothing but a list that is too short comes sooner; and 4 is given for the party and the id
+ * alone. */
+static void expect_party(const struct call *c, uint32_t status)
+{
+    bool list_short = c->kind == SERVE && c->fired_words < FIRED_WORDS;
+    uint32_t index = c->id - ID_BASE;
+    if (!is_party(c->party) && status != (list_short ? HC_LIST_TOO_SHORT : HC_INVALID_ID))
+        fail("expected status 4, since there is no such party, came %" PRIu32, status);
+    if (is_party(c->party) && status == HC_INVALID_ID && (!oracle_takes_id(c->kind) || names_timer(c)))
+        fail("expected another status, since neither the party nor an id is wrong, came 4");
+    no_party += !is_party(c->party);
+    of_other += is_party(c->party) && status == HC_INVALID_ID && index >= 1 && index <= slots && exists[index];
 }
 
 /* The C library has that date, and it is one of the years 1988 to 2099. */
@@ -388,6 +438,37 @@ static void expect_set_clock(const struct call *c, uint32_t status)
     if (status != expected)
         fail("expected status %" PRIu32 " by the calls before, came %" PRIu32, expected, status);
     settings[REFUSED_FOR_TICKS] += status == HC_INVALID_CLOCK && date_valid;
+}
+
+/* A serve's is known from the table's split, the party and whether the server was initiated. */
+static void expect_serve(const struct call *c, uint32_t status)
+{
+    uint32_t expected = initiated ? HC_SUCCESSFUL : HC_INCORRECT_STATE;
+    if (c->fired_words < FIRED_WORDS)
+        expected = HC_LIST_TOO_SHORT;
+    else if (!is_party(c->party))
+        expected = HC_INVALID_ID;
+    if (status != expected)
+        fail("expected status %" PRIu32 " by the calls before, came %" PRIu32, expected, status);
+}
+
+/* A create is accepted exactly where the party has a free slot and the name is not 0; it takes the lowest. */
+static void expect_create(const struct call *c, const struct came *came)
+{
+    uint32_t lowest = 0;
+    for (uint32_t i = slots; i >= 1; i--)
+        if (!exists[i] && party_of(i) == c->party)
+            lowest = i;
+    uint32_t expected = lowest != 0 ? HC_SUCCESSFUL : HC_TOO_MANY, id = 0;
+    if (!is_party(c->party))
+        expected = HC_INVALID_ID;
+    else if (c->name == 0)
+        expected = HC_INVALID_NAME;
+    if (expected == HC_SUCCESSFUL)
+        id = ID_BASE + lowest;
+    if (came->status != expected || came->answer != id)
+        fail("expected status %" PRIu32 " and id 0x%" PRIx32 " by the calls before, came %" PRIu32 " and 0x%" PRIx32, expected,
+             id, came->status, came->answer);
 }
 
 /* Nor does a leap's status need more. */
@@ -423,10 +504,20 @@ static void expect_initiated(bool wanted)
 
 static void after_create(uint32_t id)
 {
-    if (id <= ID_BASE || id - ID_BASE > slots || exists[id - ID_BASE])
-        fail("expected the id of a free slot, came 0x%" PRIx32, id);
     exists[id - ID_BASE] = true, ending[id - ID_BASE] = NEVER_BEGUN;
     last[id - ID_BASE] = (struct start){.id = id};
+}
+
+static void after_cancel(uint32_t id)
+{
+    stop(id);
+    ending[id - ID_BASE] = BY_CANCEL;
+}
+
+static void after_delete(uint32_t id)
+{
+    stop(id);
+    exists[id - ID_BASE] = false;
 }
 
 static void after_reset(const struct call *c)
@@ -452,12 +543,27 @@ static struct start start_of(const struct call *c)
     return s;
 }
 
+/* Ticks pass, the clock is set or a timer is handed out: what is due of it must be listed. */
+static void after_listing(const struct call *c, const struct came *came, const uint32_t *list_before, const uint32_t *list)
+{
+    uint32_t expected[MAX_LIST], count = 0;
+    if (c->kind == TICK)
+        count = after_tick(expected);
+    else if (c->kind == LEAP)
+        count = after_leap(c, came, expected);
+    else if (c->kind == SET_CLOCK)
+        count = after_set_clock(c, came, expected);
+    fired_in_all += count;
+    if (c->kind == SERVE)
+        count = after_serve(c->party, expected);
+    expect_list(came, expected, count, list_before, list, c->fired_words);
+}
+
 /* Takes an accepted call into the history. */
 static void learn(const struct call *c, const struct came *came, const uint32_t *list_before, const uint32_t *list)
 {
-    uint32_t expected[MAX_LIST], count;
     if (oracle_takes_id(c->kind))
-        expect_timer(c->id);
+        expect_timer(c);
     if (of_server(c->kind))
         expect_initiated(c->kind != INITIATE_SERVER);
     switch (c->kind) {
@@ -468,12 +574,10 @@ static void learn(const struct call *c, const struct came *came, const uint32_t 
         after_create(came->answer);
         break;
     case CANCEL:
-        stop(c->id);
-        ending[c->id - ID_BASE] = BY_CANCEL;
+        after_cancel(c->id);
         break;
     case DELETE:
-        stop(c->id);
-        exists[c->id - ID_BASE] = false;
+        after_delete(c->id);
         break;
     case FIRE_AFTER:
     case FIRE_WHEN:
@@ -491,10 +595,8 @@ static void learn(const struct call *c, const struct came *came, const uint32_t 
     case TICK:
     case SET_CLOCK:
     case LEAP:
-        count = c->kind == TICK ? after_tick(expected) : c->kind == LEAP ? after_leap(c, came, expected)
-                                                                         : after_set_clock(c, came, expected);
-        expect_list(came, expected, count, list_before, list, c->fired_words);
-        fired_in_all += count;
+    case SERVE:
+        after_listing(c, came, list_before, list);
         break;
     case GET_CLOCK:
         expect_clock(came);
@@ -504,9 +606,6 @@ static void learn(const struct call *c, const struct came *came, const uint32_t 
         break;
     case INITIATE_SERVER:
         initiated = true;
-        break;
-    case SERVE:
-        expect_list(came, expected, after_serve(expected), list_before, list, c->fired_words);
         break;
     case IDENT:
         break;      /* names are the oracle's to test */
@@ -542,14 +641,14 @@ static void expect_waiting(bool by_date, const uint32_t *table)
                  expected, count, table);
 }
 
-/* The next serve hands out the first, and so on. */
+/* In the order in which they came to be queued; and each party's next serve hands out its first, and so on. */
 static void expect_queue(const uint32_t *table)
 {
-    uint32_t expected[MAX_SLOTS], count = queue_length();
-    for (uint32_t i = 1; i <= slots; i++)
-        if (handed_by[i] != 0)
-            expected[handed_by[i] - serves - 1] = i;
-    expect_chain("queue", table[HEADER_FIRST_QUEUED], expected, count, table);
+    uint64_t next[PARTIES + 1] = {0, serves[1], serves[2]};
+    for (uint32_t k = 0; k < queued; k++)
+        if (handed_by[queue[k]] != ++next[party_of(queue[k])])
+            fail("the test itself: expected the serves of queued timers to be the next ones, came others");
+    expect_chain("queue", table[HEADER_FIRST_QUEUED], queue, queued, table);
 }
 
 /* ---- Random calls ---- */
@@ -582,14 +681,35 @@ static void random_time(struct hc_wall_time *t)
         t->second = 59 + below(2);
 }
 
-/* Mostly of any slot, at times of one that is queued. */
-static uint32_t random_id(void)
+/* Any slot, but mostly of the party's where there are two. */
+static uint32_t random_index(uint32_t party)
 {
     uint32_t index = below(slots + 2);
+    for (int tries = 0; tries < 4 && !(index >= 1 && index <= slots && party_of(index) == party) && !one_in(8); tries++)
+        index = below(slots + 2);
+    return index;
+}
+
+/* Mostly of any slot, at times of one that is queued. */
+static uint32_t random_id(uint32_t party)
+{
+    uint32_t index = random_index(party);
     if (one_in(6))
         for (int tries = 0; tries < 8 && (index > slots || handed_by[index] == 0); tries++)
-            index = below(slots + 2);
+            index = random_index(party);
     return ID_BASE + index;
+}
+
+static uint32_t random_party(void)
+{
+    if (one_in(30))
+        return one_in(4) ? random_word() : below(4);
+    return split != 0 ? 1 + below(PARTIES) : 1;
+}
+
+static uint32_t random_split(uint32_t of_slots)
+{
+    return of_slots > 1 && one_in(2) ? 1 + below(of_slots - 1) : 0;
 }
 
 /* The ticks until the first start that has not ended is due. */
@@ -641,7 +761,7 @@ static void random_history_call(struct call *c, size_t words)
         [SERVER_FIRE_WHEN] = 4, [SERVE] = 4, [LEAP] = 3};
     memset(c, 0, sizeof *c);
     c->kind = weighted_call(weights);
-    if (c->kind == SERVE && queue_length() == 0 && !one_in(4))
+    if (c->kind == SERVE && queued == 0 && !one_in(4))
         c->kind = TICK;
     if (one_in(one_in(2) ? 20 : 60))
         c->kind = SET_CLOCK;
@@ -651,11 +771,15 @@ static void random_history_call(struct call *c, size_t words)
         c->kind = LAY_OUT;
     c->words = words;
     c->slots = one_in(4) ? MAX_SLOTS + 1 : slots, c->ticks_per_second = ticks_per_second;
+    c->split = one_in(4) ? slots : random_split(slots);
+    c->party = random_party();
     c->name = below(5);
-    c->id = random_id();
+    c->id = random_id(c->party);
     c->ticks = one_in(50) ? random_word() : below(span) + (one_in(20) ? 0 : 1);
     if (c->kind == LEAP)
         c->ticks = random_leap();
+    if (c->kind == FIRE_AFTER && one_in(4))
+        tell_in_seconds(c, ticks_per_second);
     c->routine = below(20), c->data = random_word();
     c->fired_words = list_words(slots) - (one_in(10) ? 1 : 0) + (one_in(3) ? 1 : 0);
     if (c->kind == SERVE)
@@ -669,14 +793,21 @@ static void make(struct call *c, uint32_t *table)
     struct came came;
     for (size_t i = 0; i < c->fired_words; i++)
         list[i] = list_before[i] = (uint32_t)(calls + i);
-    place.call = c, place.number++, calls++;
+    place.call = c, place.number++, calls++, one_party_calls += split == 0;
     perform(c, table, list, &came);
+    in_seconds[came.status == HC_SUCCESSFUL] += c->in_seconds;
+    if (oracle_takes_party(c->kind))
+        expect_party(c, came.status);
     if (c->kind == CANCEL)
-        expect_cancel(c->id, came.status);
+        expect_cancel(c, came.status);
+    else if (c->kind == CREATE)
+        expect_create(c, &came);
     else if (c->kind == SET_CLOCK)
         expect_set_clock(c, came.status);
     else if (c->kind == LEAP)
         expect_leap(c, came.status);
+    else if (c->kind == SERVE)
+        expect_serve(c, came.status);
     else if (came.status == HC_INCORRECT_STATE)
         expect_server_refusal(c->kind);
     if (c->kind == NEXT_DUE && came.status != HC_SUCCESSFUL)
@@ -692,6 +823,8 @@ static void make(struct call *c, uint32_t *table)
         return;
     }
     accepted[c->kind]++;
+    if (oracle_takes_party(c->kind) && split != 0)
+        accepted_of[c->party]++;
     learn(c, &came, list_before, list);
     expect_waiting(false, table);
     expect_waiting(true, table);
@@ -707,6 +840,7 @@ static void report(uint64_t seed)
     for (int i = 0; i < CALLS; i++)
         printf(" %s %" PRIu64, call_names[i], accepted[i]);
     puts(" accepted");
+    printf("  starts in seconds: accepted %" PRIu64 ", refused %" PRIu64 "\n", in_seconds[1], in_seconds[0]);
     printf("  nothing to cancel: never started %" PRIu64 ", fired %" PRIu64 ", cancelled %" PRIu64 ", served %" PRIu64 "\n",
            nothing_after[NEVER_BEGUN], nothing_after[BY_FIRING], nothing_after[BY_CANCEL], nothing_after[BY_SERVE]);
     printf("  the clock: set at first %" PRIu64 ", not moved %" PRIu64 ", moved on %" PRIu64 ", moved back %" PRIu64
@@ -716,7 +850,13 @@ static void report(uint64_t seed)
            ", by queueing %" PRIu64 ", past the clock's end %" PRIu64 ", refused for the ticks %" PRIu64 "\n", leaps[NO_TICKS],
            leaps[ALL_EMPTY], leaps[MOST_EMPTY], leaps[ENDED_BY_FIRING], leaps[ENDED_BY_QUEUEING], leaps[PAST_THE_CLOCK],
            leaps[TOO_MANY_TICKS]);
+    printf("  parties: calls on tables of one %" PRIu64 ", accepted of party 1 of two %" PRIu64 ", of party 2 %" PRIu64
+           ", refused for no such party %" PRIu64 ", for the other's timer %" PRIu64 "; served past the other's %" PRIu64
+           ", none where only the other's are queued %" PRIu64 "\n", one_party_calls, accepted_of[1], accepted_of[2], no_party,
+           of_other, served_past, none_of_own);
     place.call = NULL, place.table = 0;
+    if (accepted_of[1] == 0 || accepted_of[2] == 0 || no_party == 0 || of_other == 0 || served_past == 0 || none_of_own == 0)
+        fail("expected two parties to be accepted and refused, and serves past the other's timers, came none of one sort");
     for (int i = 0; i < LEAPINGS; i++)
         if (leaps[i] == 0)
             fail("expected leaps of each sort, came none of one");
@@ -731,6 +871,8 @@ static void report(uint64_t seed)
             fail("expected cancels of timers never started, fired, cancelled and served, came none of one sort");
     if (fired_again == 0)
         fail("expected periodic timers to fire again, came none");
+    if (in_seconds[0] == 0 || in_seconds[1] == 0)
+        fail("expected starts in seconds, some accepted and some refused, came none of one sort");
     if (none_due == 0 || some_due == 0)
         fail("expected next due where timers wait for ticks and where none does, came none of one sort");
     if (served_sooner == 0 || served_sooner == served_in_all)
@@ -748,6 +890,7 @@ int main(int count, char **arguments)
         struct call c = {.kind = LAY_OUT};
         c.slots = ONE_OF(sizes);
         c.ticks_per_second = ONE_OF(rates);
+        c.split = random_split(c.slots);
         c.words = table_words(c.slots);
         span = ONE_OF(spans);
         with_server = !one_in(6);

@@ -2,7 +2,8 @@
  * libuv's repeating ones: the same timers must fire, in the same order among equals, each with routine and data of its last
  * start, as many ticks must be left, the next must be due when libuv's loop would wake, and only the timers that libuv calls
  * active can be cancelled. A leap does the ticks that libuv's loop would sleep through and wake with. The wall clock is
- * libuv's time and an offset: to set it changes no timer, and moves it by as much as the offset changes.
+ * libuv's time and an offset: to set it changes no timer, and moves it by as much as the offset changes. libuv knows no
+ * parties: first one has all timers, then two have them, which changes nothing but who calls.
  * Arguments: seed, number of calls. */
 #define _DEFAULT_SOURCE
 #include "harness.h"
@@ -32,7 +33,8 @@ int clock_getres(clockid_t clock, struct timespec *step)
     return 0;
 }
 
-enum { SLOTS = 200, TICKS_PER_SECOND = 1000, DAY = 86400 };
+enum { SLOTS = 200, OF_FIRST = 80, TICKS_PER_SECOND = 1000, DAY = 86400 };
+static uint32_t split;      /* 0, or how many timers are party 1's */
 static uv_loop_t *loop;
 static uv_timer_t timers[SLOTS + 1];
 static struct {
@@ -62,6 +64,8 @@ static void uv_must(int result)
 static void make(struct call *c, uint32_t expected_status, struct came *came)
 {
     c->words = HC_TABLE_WORDS(SLOTS);
+    if (oracle_takes_id(c->kind))
+        c->party = HC_PARTY_OF(c->id, split);
     place.call = c, place.number++, calls++;
     perform(c, table, list, came);
     if (came->status != expected_status)
@@ -223,16 +227,8 @@ static void set_clock(void)
     sets++, sets_back += moved < 0;
 }
 
-static void one_call(void)
+static void call_on_timer(void)
 {
-    if (one_in(40)) {
-        set_clock();
-        return;
-    }
-    if (one_in(200)) {
-        calm();
-        return;
-    }
     uint32_t index = 1 + below(SLOTS), ticks = 1 + below(one_in(3) ? 40 : 6);
     struct call c = {.id = ID_BASE + index, .ticks = one_in(100) ? UINT32_MAX : ticks};
     c.routine = 1 + below(UINT32_MAX), c.data = random_word();
@@ -273,27 +269,49 @@ static void one_call(void)
     }
 }
 
+static void one_call(void)
+{
+    if (one_in(40))
+        set_clock();
+    else if (one_in(200))
+        calm();
+    else
+        call_on_timer();
+}
+
+/* A new table, on which timers are made and none is started. */
+static void lay_out(uint32_t new_split)
+{
+    struct came came;
+    split = new_split;
+    struct call c = {.kind = LAY_OUT, .slots = SLOTS, .ticks_per_second = TICKS_PER_SECOND, .split = split};
+    place.table++, place.number = 0, clock_set = false;
+    make(&c, 0, &came);
+    for (uint32_t i = 1; i <= SLOTS; i++) {
+        struct call create = {.kind = CREATE, .party = HC_PARTY_OF(ID_BASE + i, split), .name = i};
+        make(&create, 0, &came);
+        uv_must(uv_timer_stop(&timers[i]));
+        last_start[i].ticks = 0;
+    }
+    expect_next_due();
+}
+
 int main(int count, char **arguments)
 {
     uint64_t seed = number_argument(count, arguments, 1, 1);
     uint64_t wanted = number_argument(count, arguments, 2, 1000000);
-    struct call lay_out = {.kind = LAY_OUT, .slots = SLOTS, .ticks_per_second = TICKS_PER_SECOND};
-    struct came came;
     begin("libuv", seed);
     loop = uv_default_loop();
     if (loop == NULL)
         fail("the test itself: expected libuv to have a loop, came none");
-    place.table = 1;
-    make(&lay_out, 0, &came);
-    for (uint32_t i = 1; i <= SLOTS; i++) {
-        struct call create = {.kind = CREATE, .name = i};
-        make(&create, 0, &came);
+    for (uint32_t i = 1; i <= SLOTS; i++)
         uv_must(uv_timer_init(loop, &timers[i]));
-    }
     uv_must(uv_timer_start(&timers[1], note_fired, 1, 0));
     uv_run(loop, UV_RUN_NOWAIT);    /* before its first run with a timer libuv does not say how long it would sleep */
-    uv_must(uv_timer_stop(&timers[1]));
-    expect_next_due();
+    lay_out(HC_ONE_PARTY);
+    while (calls < wanted / 2)
+        one_call();
+    lay_out(OF_FIRST);
     while (calls < wanted)
         one_call();
     printf("libuv %s: seed %" PRIu64 ", %" PRIu64 " calls, %" PRIu64 " timers fired, %" PRIu64 " of them periodic; %" PRIu64
@@ -301,6 +319,7 @@ int main(int count, char **arguments)
            " leaps to a timer, %" PRIu64 " over empty ticks alone, of up to %" PRIu64 " ticks\n",
            uv_version_string(), seed, calls, fires, periodic_fires, cancels, idle_cancels, sets, sets_back, leaps_to_timer,
            leaps_between, longest_leap);
+    place.call = NULL, place.table = 0;
     if (periodic_fires == 0 || periodic_fires == fires)
         fail("expected timers to fire, periodic ones and others, came none of one sort");
     if (sleeps == 0 || ends == 0)

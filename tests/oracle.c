@@ -14,10 +14,14 @@ const char *const reason_texts[REASONS] = {
     [SERVED_SHORT] = "list shorter than 3 words", [LEAP_TOO_FAR] = "more than 1000000 ticks",
     [INITIATED_ALREADY] = "server initiated already",
     [NOT_INITIATED] = "server not initiated", [NOTHING_TO_CANCEL] = "neither waiting nor queued",
+    [PARTY_BELOW] = "party 0", [PARTY_ABOVE] = "party above 2", [NO_SECOND_PARTY] = "party 2 of one",
     [SLOTS_BELOW] = "no slots", [SLOTS_ABOVE] = "too many slots", [TPS_BELOW] = "no ticks in a second",
-    [TPS_ABOVE] = "too many ticks in a second", [WORDS_SHORT] = "fewer than 10 + 8N words", [NAME_ZERO] = "name 0",
-    [NAME_UNKNOWN] = "no such name", [NONE_FREE] = "no slot is free", [ID_BELOW] = "id below the first",
-    [ID_ABOVE] = "id above the last", [ID_FREE] = "id of a free slot", [TICKS_ZERO] = "ticks 0",
+    [TPS_ABOVE] = "too many ticks in a second", [SPLIT_ABOVE] = "split of N or more",
+    [WORDS_SHORT] = "fewer than 10 + 8N words", [NAME_ZERO] = "name 0",
+    [NAME_UNKNOWN] = "no such name", [NAME_OF_OTHER] = "name of the other party's alone", [NONE_FREE] = "no slot is free",
+    [NONE_OWN_FREE] = "no slot is free but the other party's", [ID_BELOW] = "id below the first",
+    [ID_ABOVE] = "id above the last", [ID_OF_OTHER] = "id of the other party's timer", [ID_FREE] = "id of a free slot",
+    [TICKS_ZERO] = "ticks 0",
     [ROUTINE_ZERO] = "routine 0", [CLOCK_UNSET] = "clock not set", [BAD_YEAR] = "year", [BAD_MONTH] = "month",
     [BAD_DAY] = "day", [BAD_HOUR] = "hour", [BAD_MINUTE] = "minute", [BAD_SECOND] = "second",
     [DATE_NOT_AFTER] = "date not after the present second", [BAD_TICKS] = "ticks of T or more", [NEVER_STARTED_YET] = "kind 1",
@@ -29,8 +33,10 @@ const char *const reason_texts[REASONS] = {
 
 const uint32_t reason_statuses[REASONS] = {
     [TABLE_NOT_SOUND] = 100, [LIST_SHORT] = 101, [SERVED_SHORT] = 101, [LEAP_TOO_FAR] = 10, [INITIATED_ALREADY] = 14,
-    [NOT_INITIATED] = 14, [NOTHING_TO_CANCEL] = 14, [SLOTS_BELOW] = 10, [SLOTS_ABOVE] = 10, [TPS_BELOW] = 10, [TPS_ABOVE] = 10,
-    [WORDS_SHORT] = 8, [NAME_ZERO] = 3, [NAME_UNKNOWN] = 3, [NONE_FREE] = 5, [ID_BELOW] = 4, [ID_ABOVE] = 4, [ID_FREE] = 4,
+    [NOT_INITIATED] = 14, [NOTHING_TO_CANCEL] = 14, [PARTY_BELOW] = 4, [PARTY_ABOVE] = 4, [NO_SECOND_PARTY] = 4,
+    [SLOTS_BELOW] = 10, [SLOTS_ABOVE] = 10, [TPS_BELOW] = 10, [TPS_ABOVE] = 10, [SPLIT_ABOVE] = 10, [WORDS_SHORT] = 8,
+    [NAME_ZERO] = 3, [NAME_UNKNOWN] = 3, [NAME_OF_OTHER] = 3, [NONE_FREE] = 5, [NONE_OWN_FREE] = 5, [ID_BELOW] = 4,
+    [ID_ABOVE] = 4, [ID_OF_OTHER] = 4, [ID_FREE] = 4,
     [TICKS_ZERO] = 10, [ROUTINE_ZERO] = 9, [CLOCK_UNSET] = 11, [BAD_YEAR] = 20, [BAD_MONTH] = 20, [BAD_DAY] = 20,
     [BAD_HOUR] = 20, [BAD_MINUTE] = 20, [BAD_SECOND] = 20, [DATE_NOT_AFTER] = 20, [BAD_TICKS] = 20,
     [NEVER_STARTED_YET] = 11, [IDLE_BY_DATE] = 11, [WAITS_FOR_DATE] = 11, [IDLE_SERVER_BY_DATE] = 11,
@@ -111,11 +117,26 @@ const char *const leap_case_texts[LEAP_CASES] = {
     [LEAP_DATE_HALF_WRAPS] = "the first date would be past if its ticks had 32 bits and a sign",
     [LEAP_JUST_TOO_FAR] = "1000001 ticks alone are refused", [LEAP_FAR_TOO_FAR] = "4294967295 ticks alone are refused"};
 
+const char *const party_case_texts[PARTY_CASES] = {
+    [SPLIT_NONE] = "the split is 0", [SPLIT_LOWEST] = "the split is 1 of three slots or more",
+    [SPLIT_HIGHEST] = "the split is N - 1 of three slots or more", [SPLIT_JUST_TOO_HIGH] = "a split of N alone is refused",
+    [SPLIT_FAR_TOO_HIGH] = "a split of 4294967295 alone is refused", [ONE_PARTY] = "the one party of a table is accepted",
+    [AS_FIRST] = "party 1 of two is accepted", [AS_SECOND] = "party 2 is accepted",
+    [LAST_OF_FIRST] = "party 1 of two is accepted for its last slot",
+    [FIRST_OF_SECOND] = "party 2 is accepted for its first slot",
+    [FIRST_REFUSED_NEXT] = "party 1 is refused the first slot of party 2",
+    [SECOND_REFUSED_LAST] = "party 2 is refused the last slot of party 1",
+    [CREATED_PAST_FREE] = "party 2 takes a slot though one of party 1 is free",
+    [OTHER_HAS_NAME] = "the other party has that name too",
+    [SERVED_PAST_OTHERS] = "a timer is handed out past the other party's ahead of it",
+    [SERVED_AHEAD_OF_OTHERS] = "a timer is handed out ahead of the other party's",
+    [NONE_OWN_QUEUED] = "none is handed out since all that are queued are the other party's"};
+
 const char *const part_texts[PARTS] = {
     [PART_HEADER_SHORT] = "fewer than 10 words", [PART_SLOTS_BELOW] = "no slots", [PART_SLOTS_ABOVE] = "more than 255 slots",
     [PART_WORDS] = "fewer than 10 + 8N words",
     [PART_TPS] = "ticks in a second", [PART_CLOCK_SET] = "clock set", [PART_SECONDS] = "seconds",
-    [PART_CLOCK_TICKS] = "ticks into the second", [PART_ZERO] = "word 7 not 0", [PART_INITIATED] = "word 8 above 1",
+    [PART_CLOCK_TICKS] = "ticks into the second", [PART_SPLIT] = "word 7 of N or more", [PART_INITIATED] = "word 8 above 1",
     [PART_UNSET_CLOCK] = "words 3 and 4 of an unset clock", [PART_UNSET_DATED] = "word 6 of an unset clock",
     [PART_KIND] = "kind above 13", [PART_SERVER_KIND] = "timer of a server that is not initiated",
     [PART_FREE] = "free slot not zero", [PART_NEVER_NAME] = "kind 1 without a name",
@@ -130,14 +151,17 @@ const char *const part_texts[PARTS] = {
     [PART_QUEUE] = "queue does not meet its slots once each", [PART_QUEUE_PREVIOUS] = "previous in the queue",
     [PART_QUEUED_WAIT] = "queued with a wait"};
 
-/* The statuses of each call in their order of refusal; 0 where it has no more. */
-enum { MOST_REFUSALS = 6 };
+/* The statuses of each call in their order of refusal, where WRONG_PARTY stands for the 4 of a wrong party; 0 where it has no
+ * more. */
+enum { MOST_REFUSALS = 7 };
 static const uint32_t orders[CALLS][MOST_REFUSALS] = {
-    [LAY_OUT] = {10, 8}, [CREATE] = {100, 3, 5}, [IDENT] = {100, 3}, [CANCEL] = {100, 4, 14}, [DELETE] = {100, 4},
-    [FIRE_AFTER] = {100, 10, 9, 4}, [FIRE_WHEN] = {100, 11, 9, 20, 4}, [FIRE_EVERY] = {100, 10, 9, 4},
-    [RESET] = {100, 4, 11}, [TICKS_LEFT] = {100, 4}, [TICK] = {100, 101}, [SET_CLOCK] = {100, 101, 20},
-    [GET_CLOCK] = {100, 11}, [NEXT_DUE] = {100}, [INITIATE_SERVER] = {100, 14}, [SERVER_FIRE_AFTER] = {100, 14, 10, 9, 4},
-    [SERVER_FIRE_WHEN] = {100, 14, 11, 9, 20, 4}, [SERVE] = {100, 101, 14}, [LEAP] = {100, 101, 10}};
+    [LAY_OUT] = {10, 8}, [CREATE] = {100, WRONG_PARTY, 3, 5}, [IDENT] = {100, WRONG_PARTY, 3},
+    [CANCEL] = {100, WRONG_PARTY, 4, 14}, [DELETE] = {100, WRONG_PARTY, 4}, [FIRE_AFTER] = {100, WRONG_PARTY, 10, 9, 4},
+    [FIRE_WHEN] = {100, WRONG_PARTY, 11, 9, 20, 4}, [FIRE_EVERY] = {100, WRONG_PARTY, 10, 9, 4},
+    [RESET] = {100, WRONG_PARTY, 4, 11}, [TICKS_LEFT] = {100, WRONG_PARTY, 4}, [TICK] = {100, 101},
+    [SET_CLOCK] = {100, 101, 20}, [GET_CLOCK] = {100, 11}, [NEXT_DUE] = {100}, [INITIATE_SERVER] = {100, 14},
+    [SERVER_FIRE_AFTER] = {100, WRONG_PARTY, 14, 10, 9, 4}, [SERVER_FIRE_WHEN] = {100, WRONG_PARTY, 14, 11, 9, 20, 4},
+    [SERVE] = {100, 101, WRONG_PARTY, 14}, [LEAP] = {100, 101, 10}};
 
 /* ---- Reasons, calls and kinds ---- */
 
@@ -155,6 +179,17 @@ static bool is_start(enum call_kind kind)
 bool oracle_takes_id(enum call_kind kind)
 {
     return is_start(kind) || kind == CANCEL || kind == DELETE || kind == RESET || kind == TICKS_LEFT;
+}
+
+bool oracle_takes_party(enum call_kind kind)
+{
+    return oracle_takes_id(kind) || kind == CREATE || kind == IDENT || kind == SERVE;
+}
+
+uint32_t oracle_refusal(enum reason reason)
+{
+    bool party = reason == PARTY_BELOW || reason == PARTY_ABOVE || reason == NO_SECOND_PARTY;
+    return party ? WRONG_PARTY : reason_statuses[reason];
 }
 
 static bool waits_for_ticks(uint32_t kind)
@@ -300,44 +335,84 @@ static uint64_t clock_faults(const struct hc_wall_time *time, uint32_t ticks_per
     return date_faults(time) | bit(BAD_TICKS, time->ticks >= ticks_per_second);
 }
 
-static uint64_t id_faults(const struct oracle *o, uint32_t id)
+/* A party number is 1 or 2; 2 only where the table is split. */
+static uint64_t party_faults(uint32_t party, bool split)
 {
-    if (id < ID_BASE + 1)
+    return bit(PARTY_BELOW, party == 0) | bit(PARTY_ABOVE, party > 2) | bit(NO_SECOND_PARTY, party == 2 && !split);
+}
+
+/* Party 1 has slots 1 to L, party 2 the rest; where L is 0 all are party 1's. */
+bool oracle_party_has(const struct oracle *o, uint32_t party, uint32_t index)
+{
+    bool firsts = o->split == 0 || index <= o->split;
+    return party == (firsts ? 1 : 2);
+}
+
+/* The slot is the other party's. With a wrong party every slot counts as its own, so that the other refusals apply too and the
+ * order is tested. */
+static bool others(const struct oracle *o, const struct call *c, uint32_t index)
+{
+    return !party_faults(c->party, o->split != 0) && !oracle_party_has(o, c->party, index);
+}
+
+static uint64_t id_faults(const struct oracle *o, const struct call *c)
+{
+    if (c->id < ID_BASE + 1)
         return bit(ID_BELOW, true);
-    if (id > ID_BASE + o->slots)
+    if (c->id > ID_BASE + o->slots)
         return bit(ID_ABOVE, true);
-    return bit(ID_FREE, !o->timer[id - ID_BASE].exists);
+    uint32_t index = c->id - ID_BASE;
+    bool exists = o->timer[index].exists;
+    return bit(ID_FREE, !exists) | bit(ID_OF_OTHER, exists && others(o, c, index));
 }
 
-static uint32_t slots_with_name(const struct oracle *o, uint32_t name, uint32_t *lowest)
+/* Those with the call's name, or the free ones: the party's lowest, 0 if there is none, and how many the other has. */
+struct search {
+    uint32_t lowest, of_other;
+};
+
+static struct search look_for(const struct oracle *o, const struct call *c, bool free)
 {
-    uint32_t count = 0;
-    for (uint32_t i = o->slots; i >= 1; i--)
-        if (o->timer[i].exists && o->timer[i].name == name)
-            count++, *lowest = i;
-    return count;
+    struct search found = {0, 0};
+    for (uint32_t i = o->slots; i >= 1; i--) {
+        bool exists = o->timer[i].exists;
+        if (free ? exists : !exists || o->timer[i].name != c->name)
+            continue;
+        if (others(o, c, i))
+            found.of_other++;
+        else
+            found.lowest = i;
+    }
+    return found;
 }
 
-static uint32_t free_slots(const struct oracle *o, uint32_t *lowest)
+static uint64_t create_faults(const struct oracle *o, const struct call *c)
 {
-    uint32_t count = 0;
-    for (uint32_t i = o->slots; i >= 1; i--)
-        if (!o->timer[i].exists)
-            count++, *lowest = i;
-    return count;
+    struct search free = look_for(o, c, true);
+    bool none = free.lowest == 0;
+    return bit(NAME_ZERO, c->name == 0) | bit(NONE_FREE, none && !free.of_other) | bit(NONE_OWN_FREE, none && free.of_other);
+}
+
+static uint64_t ident_faults(const struct oracle *o, const struct call *c)
+{
+    struct search named = look_for(o, c, false);
+    bool none = named.lowest == 0;
+    if (c->name == 0)
+        return bit(NAME_ZERO, true);
+    return bit(NAME_UNKNOWN, none && !named.of_other) | bit(NAME_OF_OTHER, none && named.of_other);
 }
 
 static uint64_t lay_out_faults(const struct call *c)
 {
     return bit(SLOTS_BELOW, c->slots == 0) | bit(SLOTS_ABOVE, c->slots > MAX_SLOTS) |
            bit(TPS_BELOW, c->ticks_per_second == 0) | bit(TPS_ABOVE, c->ticks_per_second > MAX_TICKS_PER_SECOND) |
-           bit(WORDS_SHORT, c->words < table_words(c->slots));
+           bit(SPLIT_ABOVE, c->split != 0 && c->split >= c->slots) | bit(WORDS_SHORT, c->words < table_words(c->slots));
 }
 
 /* An id that names no timer names none that waits or is queued. */
 static uint64_t cancel_faults(const struct oracle *o, const struct call *c)
 {
-    uint64_t faults = id_faults(o, c->id);
+    uint64_t faults = id_faults(o, c);
     uint32_t index = c->id - ID_BASE;
     bool stops = !faults && (o->timer[index].waiting || place_in_queue(o, index) < o->queued);
     return faults | bit(NOTHING_TO_CANCEL, !stops);
@@ -345,7 +420,7 @@ static uint64_t cancel_faults(const struct oracle *o, const struct call *c)
 
 static uint64_t fire_after_faults(const struct oracle *o, const struct call *c)
 {
-    return bit(TICKS_ZERO, c->ticks == 0) | bit(ROUTINE_ZERO, c->routine == 0) | id_faults(o, c->id);
+    return bit(TICKS_ZERO, c->ticks == 0) | bit(ROUTINE_ZERO, c->routine == 0) | id_faults(o, c);
 }
 
 static uint64_t fire_when_faults(const struct oracle *o, const struct call *c)
@@ -353,12 +428,12 @@ static uint64_t fire_when_faults(const struct oracle *o, const struct call *c)
     uint32_t date;
     bool dated = oracle_seconds_of(&c->time, &date);
     return date_faults(&c->time) | bit(DATE_NOT_AFTER, o->clock_set && dated && date <= o->seconds) |
-           bit(CLOCK_UNSET, !o->clock_set) | bit(ROUTINE_ZERO, c->routine == 0) | id_faults(o, c->id);
+           bit(CLOCK_UNSET, !o->clock_set) | bit(ROUTINE_ZERO, c->routine == 0) | id_faults(o, c);
 }
 
 static uint64_t reset_faults(const struct oracle *o, const struct call *c)
 {
-    uint64_t faults = id_faults(o, c->id);
+    uint64_t faults = id_faults(o, c);
     if (faults)
         return faults;
     uint32_t kind = kind_of(o, c->id - ID_BASE);
@@ -367,22 +442,22 @@ static uint64_t reset_faults(const struct oracle *o, const struct call *c)
            bit(SERVER_WAITS_FOR_DATE, kind == KIND_SERVER_DATED) | bit(QUEUED_BY_DATE, kind == KIND_QUEUED_DATED);
 }
 
-static uint64_t faults_of(const struct oracle *o, const struct call *c)
+/* But for the party. */
+static uint64_t other_faults(const struct oracle *o, const struct call *c)
 {
-    uint32_t unused;
     bool list_short = c->fired_words < list_words(o->slots);
     switch (c->kind) {
     case LAY_OUT:
         return lay_out_faults(c);
     case CREATE:
-        return bit(NAME_ZERO, c->name == 0) | bit(NONE_FREE, free_slots(o, &unused) == 0);
+        return create_faults(o, c);
     case IDENT:
-        return c->name == 0 ? bit(NAME_ZERO, true) : bit(NAME_UNKNOWN, slots_with_name(o, c->name, &unused) == 0);
+        return ident_faults(o, c);
     case CANCEL:
         return cancel_faults(o, c);
     case DELETE:
     case TICKS_LEFT:
-        return id_faults(o, c->id);
+        return id_faults(o, c);
     case FIRE_AFTER:
     case FIRE_EVERY:
         return fire_after_faults(o, c);
@@ -410,6 +485,11 @@ static uint64_t faults_of(const struct oracle *o, const struct call *c)
         return bit(LIST_SHORT, list_short) | bit(LEAP_TOO_FAR, c->ticks > MOST_LEAP);
     }
     abort();    /* there is no such call */
+}
+
+static uint64_t faults_of(const struct oracle *o, const struct call *c)
+{
+    return other_faults(o, c) | (oracle_takes_party(c->kind) ? party_faults(c->party, o->split != 0) : 0);
 }
 
 /* The id names no timer, however many slots the table has. */
@@ -446,24 +526,26 @@ static uint64_t argument_faults(const struct call *c, const uint32_t *table)
     bool clock_unset = c->words > HEADER_CLOCK_SET && table[HEADER_CLOCK_SET] == 0;
     bool initiated = c->words > HEADER_INITIATED && table[HEADER_INITIATED] == 1;
     bool not_initiated = c->words > HEADER_INITIATED && table[HEADER_INITIATED] == 0;
+    bool split = c->words <= HEADER_SPLIT || table[HEADER_SPLIT] != 0;
+    uint64_t party = party_faults(c->party, split);
     switch (c->kind) {
     case LAY_OUT:
     case NEXT_DUE:
         return 0;
     case CREATE:
     case IDENT:
-        return bit(NAME_ZERO, c->name == 0);
+        return party | bit(NAME_ZERO, c->name == 0);
     case CANCEL:
-        return id_argument_faults(c->id) | bit(NOTHING_TO_CANCEL, idle_by_its_word(c, table));
+        return party | id_argument_faults(c->id) | bit(NOTHING_TO_CANCEL, idle_by_its_word(c, table));
     case DELETE:
     case RESET:
     case TICKS_LEFT:
-        return id_argument_faults(c->id);
+        return party | id_argument_faults(c->id);
     case FIRE_AFTER:
     case FIRE_EVERY:
-        return fire_after_argument_faults(c);
+        return party | fire_after_argument_faults(c);
     case FIRE_WHEN:
-        return fire_when_argument_faults(c, clock_unset);
+        return party | fire_when_argument_faults(c, clock_unset);
     case TICK:
         return bit(LIST_SHORT, list_short);
     case SET_CLOCK:
@@ -473,11 +555,11 @@ static uint64_t argument_faults(const struct call *c, const uint32_t *table)
     case INITIATE_SERVER:
         return bit(INITIATED_ALREADY, initiated);
     case SERVER_FIRE_AFTER:
-        return bit(NOT_INITIATED, not_initiated) | fire_after_argument_faults(c);
+        return party | bit(NOT_INITIATED, not_initiated) | fire_after_argument_faults(c);
     case SERVER_FIRE_WHEN:
-        return bit(NOT_INITIATED, not_initiated) | fire_when_argument_faults(c, clock_unset);
+        return party | bit(NOT_INITIATED, not_initiated) | fire_when_argument_faults(c, clock_unset);
     case SERVE:
-        return bit(SERVED_SHORT, c->fired_words < FIRED_WORDS) | bit(NOT_INITIATED, not_initiated);
+        return party | bit(SERVED_SHORT, c->fired_words < FIRED_WORDS) | bit(NOT_INITIATED, not_initiated);
     case LEAP:
         return bit(LIST_SHORT, list_short) | bit(LEAP_TOO_FAR, c->ticks > MOST_LEAP);
     }
@@ -486,7 +568,8 @@ static uint64_t argument_faults(const struct call *c, const uint32_t *table)
 
 static void clear(struct outcome *outcome)
 {
-    outcome->timer_kind = KIND_FREE;
+    outcome->timer_kind = outcome->others_kind = KIND_FREE;
+    outcome->party_cases = 0;
     outcome->queue_place = NOT_QUEUED;
     outcome->last_event = CREATED;
     outcome->queued_before = outcome->answer = outcome->done = outcome->due_count = 0;
@@ -509,7 +592,7 @@ static enum reason first_reason(enum call_kind kind, uint64_t applying)
 {
     for (int place = 0; place < MOST_REFUSALS; place++)
         for (int reason = 1; reason < REASONS; reason++)
-            if ((applying >> reason & 1) && orders[kind][place] == reason_statuses[reason])
+            if ((applying >> reason & 1) && orders[kind][place] == oracle_refusal((enum reason)reason))
                 return (enum reason)reason;
     return ACCEPTED;
 }
@@ -679,6 +762,20 @@ static void lay_out(struct oracle *o, const struct call *c)
     memset(o, 0, sizeof *o);
     o->slots = c->slots;
     o->ticks_per_second = c->ticks_per_second;
+    o->split = c->split;
+}
+
+static void create(struct oracle *o, const struct call *c, struct outcome *out)
+{
+    uint32_t index = look_for(o, c, true).lowest;
+    o->timer[index] = (struct oracle_timer){.exists = true, .name = c->name};
+    out->answer = ID_BASE + index;
+}
+
+static void delete(struct oracle *o, uint32_t index)
+{
+    stop(o, index);
+    o->timer[index] = (struct oracle_timer){.exists = false};
 }
 
 /* It moved from one reading to the other. (The baseline multiplies the difference of the seconds.) */
@@ -694,13 +791,30 @@ static void set_clock(struct oracle *o, const struct call *c, struct outcome *ou
     fire_due(o, BY_DATE, o->seconds, out);
 }
 
-static void serve(struct oracle *o, struct outcome *out)
+static void get_clock(const struct oracle *o, struct hc_wall_time *now)
 {
-    if (o->queued == 0)
+    oracle_date_of(o->seconds, now);
+    now->ticks = o->clock_ticks;
+}
+
+/* The place in the queue, from 0, of the caller's first there; the number of those queued if there is none. */
+static uint32_t own_place(const struct oracle *o, uint32_t party)
+{
+    uint32_t place = 0;
+    while (place < o->queued && !oracle_party_has(o, party, o->queue[place]))
+        place++;
+    return place;
+}
+
+static void serve(struct oracle *o, uint32_t party, struct outcome *out)
+{
+    uint32_t place = own_place(o, party);
+    if (place == o->queued)
         return;
-    list_entry(o, o->queue[0], out);
-    o->timer[o->queue[0]].last_event = SERVED;
-    take_off_queue(o, o->queue[0]);
+    uint32_t index = o->queue[place];
+    list_entry(o, index, out);
+    o->timer[index].last_event = SERVED;
+    take_off_queue(o, index);
 }
 
 static uint32_t ticks_left(const struct oracle *o, const struct oracle_timer *t)
@@ -722,26 +836,22 @@ static uint32_t least_left(const struct oracle *o)
 
 static void apply(struct oracle *o, const struct call *c, struct outcome *out)
 {
-    uint32_t index = c->id - ID_BASE, lowest = 0;
+    uint32_t index = c->id - ID_BASE;
     switch (c->kind) {
     case LAY_OUT:
         lay_out(o, c);
         break;
     case CREATE:
-        free_slots(o, &lowest);
-        o->timer[lowest] = (struct oracle_timer){.exists = true, .name = c->name};
-        out->answer = ID_BASE + lowest;
+        create(o, c, out);
         break;
     case IDENT:
-        slots_with_name(o, c->name, &lowest);
-        out->answer = ID_BASE + lowest;
+        out->answer = ID_BASE + look_for(o, c, false).lowest;
         break;
     case CANCEL:
         cancel(o, index);
         break;
     case DELETE:
-        stop(o, index);
-        o->timer[index] = (struct oracle_timer){.exists = false};
+        delete(o, index);
         break;
     case FIRE_AFTER:
     case FIRE_WHEN:
@@ -761,8 +871,7 @@ static void apply(struct oracle *o, const struct call *c, struct outcome *out)
         set_clock(o, c, out);
         break;
     case GET_CLOCK:
-        oracle_date_of(o->seconds, &out->clock);
-        out->clock.ticks = o->clock_ticks;
+        get_clock(o, &out->clock);
         break;
     case NEXT_DUE:
         out->answer = least_left(o);
@@ -771,7 +880,7 @@ static void apply(struct oracle *o, const struct call *c, struct outcome *out)
         o->initiated = true;
         break;
     case SERVE:
-        serve(o, out);
+        serve(o, c->party, out);
         break;
     case LEAP:
         leap(o, c->ticks, out);
@@ -789,12 +898,59 @@ static enum queue_place queue_place_of(const struct oracle *o, uint32_t index)
     return place == 0 ? QUEUED_FIRST : place + 1 == o->queued ? QUEUED_LAST : QUEUED_BETWEEN;
 }
 
-/* The slot that the call is about: by its id, or the queue's first; 0 if there is none. */
+/* The slot that the call is about: by its id, or the party's first in the queue; 0 if there is none. */
 static uint32_t slot_meant(const struct oracle *o, const struct call *c)
 {
+    uint32_t place = own_place(o, c->party);
     if (c->kind == SERVE)
-        return o->queued > 0 ? o->queue[0] : 0;
-    return oracle_takes_id(c->kind) && !id_faults(o, c->id) ? c->id - ID_BASE : 0;
+        return place < o->queued ? o->queue[place] : 0;
+    return oracle_takes_id(c->kind) && !id_faults(o, c) ? c->id - ID_BASE : 0;
+}
+
+static uint32_t party_case(enum party_case party_case, bool met)
+{
+    return met ? 1u << party_case : 0;
+}
+
+static uint32_t cases_of_split(const struct call *c, const struct outcome *out)
+{
+    bool some = out->reason == ACCEPTED && c->slots > 2, alone = out->applying == bit(SPLIT_ABOVE, true);
+    return party_case(SPLIT_NONE, some && c->split == 0) | party_case(SPLIT_LOWEST, some && c->split == 1) |
+           party_case(SPLIT_HIGHEST, some && c->split == c->slots - 1) |
+           party_case(SPLIT_JUST_TOO_HIGH, alone && c->split == c->slots) |
+           party_case(SPLIT_FAR_TOO_HIGH, alone && c->split == UINT32_MAX);
+}
+
+/* What a serve comes to that is accepted. */
+static uint32_t cases_of_serve(const struct oracle *o, const struct call *c)
+{
+    uint32_t place = own_place(o, c->party);
+    bool none = place == o->queued, behind = false;
+    for (uint32_t i = place; i < o->queued; i++)
+        behind = behind || others(o, c, o->queue[i]);
+    return party_case(NONE_OWN_QUEUED, none && o->queued > 0) | party_case(SERVED_PAST_OTHERS, !none && place > 0) |
+           party_case(SERVED_AHEAD_OF_OTHERS, behind);
+}
+
+/* What the call comes to for the parties on this state, where that is its reason. */
+static uint32_t cases_of_party(const struct oracle *o, const struct call *c, const struct outcome *out)
+{
+    bool accepted = out->reason == ACCEPTED, refused = out->reason == ID_OF_OTHER, two = o->split != 0;
+    bool first = c->party == 1, id = oracle_takes_id(c->kind);
+    uint32_t index = id ? c->id - ID_BASE : 0;
+    uint32_t cases = party_case(FIRST_REFUSED_NEXT, refused && first && index == o->split + 1) |
+                     party_case(SECOND_REFUSED_LAST, refused && !first && index == o->split);
+    if (!accepted)
+        return cases;
+    if (c->kind == CREATE)
+        cases |= party_case(CREATED_PAST_FREE, !first && look_for(o, c, true).of_other > 0);
+    if (c->kind == IDENT)
+        cases |= party_case(OTHER_HAS_NAME, look_for(o, c, false).of_other > 0);
+    if (c->kind == SERVE)
+        cases |= cases_of_serve(o, c);
+    return cases | party_case(ONE_PARTY, !two) | party_case(AS_FIRST, two && first) | party_case(AS_SECOND, !first) |
+           party_case(LAST_OF_FIRST, id && two && first && index == o->split) |
+           party_case(FIRST_OF_SECOND, id && !first && index == o->split + 1);
 }
 
 void oracle_call(struct oracle *state, const struct call *call, struct outcome *outcome)
@@ -806,12 +962,18 @@ void oracle_call(struct oracle *state, const struct call *call, struct outcome *
         outcome->queue_place = queue_place_of(state, index);
         outcome->last_event = state->timer[index].last_event;
     }
+    if (oracle_takes_id(call->kind) && id_faults(state, call) == bit(ID_OF_OTHER, true))
+        outcome->others_kind = kind_of(state, call->id - ID_BASE);
     outcome->queued_before = state->queued;
     outcome->clock_set_before = state->clock_set;
     outcome->seconds_before = state->seconds, outcome->clock_ticks_before = state->clock_ticks;
     outcome->applying = faults_of(state, call);
     outcome->reason = first_reason(call->kind, outcome->applying);
     outcome->status = reason_statuses[outcome->reason];
+    if (call->kind == LAY_OUT)
+        outcome->party_cases = cases_of_split(call, outcome);
+    if (oracle_takes_party(call->kind))
+        outcome->party_cases = cases_of_party(state, call, outcome);
     if (outcome->reason == ACCEPTED)
         apply(state, call, outcome);
 }
@@ -853,6 +1015,7 @@ void oracle_encode(const struct oracle *o, uint32_t *table)
     uint32_t header[HEADER_WORDS] = {o->slots, o->ticks_per_second, o->clock_set, o->seconds, o->clock_ticks};
     header[HEADER_FIRST_TICKING] = encode_chain(o, BY_INTERVAL, table);
     header[HEADER_FIRST_DATED] = encode_chain(o, BY_DATE, table);
+    header[HEADER_SPLIT] = o->split;
     header[HEADER_INITIATED] = o->initiated;
     header[HEADER_FIRST_QUEUED] = encode_queue(o, table);
     memcpy(table, header, sizeof header);
@@ -875,7 +1038,7 @@ void oracle_decode(const uint32_t *table, struct oracle *o)
     o->slots = table[HEADER_SLOTS], o->ticks_per_second = table[HEADER_TICKS_PER_SECOND];
     o->clock_set = table[HEADER_CLOCK_SET] == 1;
     o->seconds = table[HEADER_SECONDS], o->clock_ticks = table[HEADER_CLOCK_TICKS];
-    o->initiated = table[HEADER_INITIATED] == 1;
+    o->split = table[HEADER_SPLIT], o->initiated = table[HEADER_INITIATED] == 1;
     for (uint32_t i = 1; i <= o->slots; i++) {
         const uint32_t *w = table + slot_at(i, SLOT_KIND);
         uint32_t kind = w[SLOT_KIND];
@@ -1058,12 +1221,12 @@ static void check_server(const uint32_t *table, struct broken *found)
 static void check_header(const uint32_t *table, struct broken *found)
 {
     uint32_t per_second = table[HEADER_TICKS_PER_SECOND], set = table[HEADER_CLOCK_SET];
-    uint32_t seconds = table[HEADER_SECONDS], into = table[HEADER_CLOCK_TICKS];
+    uint32_t seconds = table[HEADER_SECONDS], into = table[HEADER_CLOCK_TICKS], split = table[HEADER_SPLIT];
     breaks(found, per_second < 1 || per_second > MAX_TICKS_PER_SECOND, PART_TPS);
     breaks(found, set > 1, PART_CLOCK_SET);
     breaks(found, seconds > LAST_SECOND, PART_SECONDS);
     breaks(found, into >= per_second, PART_CLOCK_TICKS);
-    breaks(found, table[HEADER_ZERO] != 0, PART_ZERO);
+    breaks(found, split != 0 && split >= table[HEADER_SLOTS], PART_SPLIT);
     breaks(found, table[HEADER_INITIATED] > 1, PART_INITIATED);
     breaks(found, set == 0 && (seconds != 0 || into != 0), PART_UNSET_CLOCK);
     breaks(found, set == 0 && table[HEADER_FIRST_DATED] != 0, PART_UNSET_DATED);
@@ -1103,13 +1266,15 @@ uint64_t oracle_broken(const uint32_t *table, size_t words, uint32_t *kinds)
 
 bool oracle_possible(enum call_kind kind, enum reason reason)
 {
+    if (oracle_refusal(reason) == WRONG_PARTY)
+        return oracle_takes_party(kind);
     switch (kind) {
     case LAY_OUT:
         return reason >= SLOTS_BELOW && reason <= WORDS_SHORT;
     case CREATE:
-        return reason == TABLE_NOT_SOUND || reason == NAME_ZERO || reason == NONE_FREE;
+        return reason == TABLE_NOT_SOUND || reason == NAME_ZERO || reason == NONE_FREE || reason == NONE_OWN_FREE;
     case IDENT:
-        return reason == TABLE_NOT_SOUND || reason == NAME_ZERO || reason == NAME_UNKNOWN;
+        return reason == TABLE_NOT_SOUND || (reason >= NAME_ZERO && reason <= NAME_OF_OTHER);
     case CANCEL:
         return reason == NOTHING_TO_CANCEL || oracle_possible(DELETE, reason);
     case DELETE:
@@ -1165,9 +1330,20 @@ bool oracle_pair_possible(enum call_kind kind, uint32_t first, uint32_t second)
         return false;
     if (kind == CREATE && first == HC_NOT_SOUND)
         return second != HC_TOO_MANY;
-    if (kind == RESET)
-        return second == HC_INVALID_ID;
+    if (kind == RESET && second == HC_NOT_DEFINED)
+        return first == WRONG_PARTY;
     return true;
+}
+
+bool oracle_party_case_possible(enum call_kind kind, enum party_case party_case)
+{
+    if (kind == LAY_OUT || party_case < ONE_PARTY)
+        return kind == LAY_OUT && party_case < ONE_PARTY;
+    if (party_case <= AS_SECOND)
+        return oracle_takes_party(kind);
+    if (party_case <= SECOND_REFUSED_LAST)
+        return oracle_takes_id(kind);
+    return kind == (party_case == CREATED_PAST_FREE ? CREATE : party_case == OTHER_HAS_NAME ? IDENT : SERVE);
 }
 
 bool oracle_takes(enum call_kind kind, uint32_t timer_kind)
@@ -1193,7 +1369,7 @@ bool oracle_refuses(enum call_kind kind, uint32_t timer_kind)
 
 bool oracle_takes_off(enum call_kind kind, uint32_t timer_kind)
 {
-    return is_queued(timer_kind) && kind != TICKS_LEFT && kind != SERVE && oracle_takes(kind, timer_kind);
+    return is_queued(timer_kind) && kind != TICKS_LEFT && oracle_takes(kind, timer_kind);
 }
 
 static uint32_t turn(enum turn turn, bool met)

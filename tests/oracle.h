@@ -13,7 +13,7 @@
 enum { MAX_SLOTS = 255, MAX_TICKS_PER_SECOND = 1000 };
 enum header_word {
     HEADER_SLOTS, HEADER_TICKS_PER_SECOND, HEADER_CLOCK_SET, HEADER_SECONDS, HEADER_CLOCK_TICKS, HEADER_FIRST_TICKING,
-    HEADER_FIRST_DATED, HEADER_ZERO, HEADER_INITIATED, HEADER_FIRST_QUEUED, HEADER_WORDS
+    HEADER_FIRST_DATED, HEADER_SPLIT, HEADER_INITIATED, HEADER_FIRST_QUEUED, HEADER_WORDS
 };
 enum slot_word {
     SLOT_KIND, SLOT_NAME, SLOT_INTERVAL, SLOT_WAIT, SLOT_ROUTINE, SLOT_DATA, SLOT_NEXT, SLOT_PREVIOUS, SLOT_WORDS
@@ -68,8 +68,11 @@ struct call {
     enum call_kind kind;
     size_t words;                   /* length of the table's slice */
     size_t fired_words;             /* length of the list */
-    uint32_t slots, ticks_per_second;
+    uint32_t slots, ticks_per_second, split;
+    uint32_t party;
     uint32_t name, id, ticks, routine, data;
+    bool in_seconds;                /* a fire after whose delay is told in seconds; ticks are what they come to, 0 if refused */
+    double seconds;
     struct hc_wall_time time;
 };
 
@@ -77,15 +80,19 @@ struct call {
 enum reason {
     ACCEPTED,
     TABLE_NOT_SOUND, LIST_SHORT, SERVED_SHORT, LEAP_TOO_FAR, INITIATED_ALREADY, NOT_INITIATED, NOTHING_TO_CANCEL,
-    SLOTS_BELOW, SLOTS_ABOVE, TPS_BELOW, TPS_ABOVE, WORDS_SHORT,
-    NAME_ZERO, NAME_UNKNOWN, NONE_FREE,
-    ID_BELOW, ID_ABOVE, ID_FREE,
+    PARTY_BELOW, PARTY_ABOVE, NO_SECOND_PARTY,
+    SLOTS_BELOW, SLOTS_ABOVE, TPS_BELOW, TPS_ABOVE, SPLIT_ABOVE, WORDS_SHORT,
+    NAME_ZERO, NAME_UNKNOWN, NAME_OF_OTHER, NONE_FREE, NONE_OWN_FREE,
+    ID_BELOW, ID_ABOVE, ID_OF_OTHER, ID_FREE,
     TICKS_ZERO, ROUTINE_ZERO, CLOCK_UNSET,
     BAD_YEAR, BAD_MONTH, BAD_DAY, BAD_HOUR, BAD_MINUTE, BAD_SECOND, DATE_NOT_AFTER, BAD_TICKS,
     NEVER_STARTED_YET, IDLE_BY_DATE, WAITS_FOR_DATE, IDLE_SERVER_BY_DATE, SERVER_WAITS_FOR_DATE, QUEUED_BY_DATE,
     NO_HEADER, NO_SUCH_SLOTS, COUNT_BELOW, COUNT_ABOVE, FIRST_ABOVE, FIRST_NOT_WAITING, FIRST_WAIT_ZERO,
     REASONS
 };
+
+/* In the orders of refusal a wrong party has this number: its status is an id's, but it comes sooner. */
+enum { WRONG_PARTY = 40 };
 
 /* Where in the queue a timer stands. */
 enum queue_place { NOT_QUEUED, QUEUED_ALONE, QUEUED_FIRST, QUEUED_BETWEEN, QUEUED_LAST, QUEUE_PLACES };
@@ -97,8 +104,11 @@ struct outcome {
     uint32_t status;
     enum reason reason;             /* one that gives the status */
     uint64_t applying;              /* all reasons that apply, a bit each */
-    uint32_t timer_kind;            /* before the call, of the timer that its id names, or of the queue's first for serve;
-                                       KIND_FREE if there is none */
+    uint32_t timer_kind;            /* before the call, of the party's timer that its id names, or of the party's first in the
+                                       queue for serve; KIND_FREE if there is none */
+    uint32_t others_kind;           /* before the call, of the other party's timer that its id names; KIND_FREE if it names
+                                       none */
+    uint32_t party_cases;           /* what it came to for the parties, a bit for each party_case */
     enum queue_place queue_place;   /* before the call, of that timer */
     enum event last_event;          /* before the call, of that timer; CREATED if there is none */
     uint32_t queued_before;         /* timers in the queue */
@@ -126,7 +136,7 @@ struct oracle_timer {
 };
 
 struct oracle {
-    uint32_t slots, ticks_per_second;
+    uint32_t slots, ticks_per_second, split;
     bool clock_set;
     uint32_t seconds, clock_ticks;
     uint64_t ticks, starts;         /* so far */
@@ -167,10 +177,18 @@ enum leap_case {
 };
 _Static_assert(LEAP_CASES <= 64, "a set of cases fits its word");
 
+/* What a call may come to for the parties, a bit each in its outcome. */
+enum party_case {
+    SPLIT_NONE, SPLIT_LOWEST, SPLIT_HIGHEST, SPLIT_JUST_TOO_HIGH, SPLIT_FAR_TOO_HIGH,
+    ONE_PARTY, AS_FIRST, AS_SECOND, LAST_OF_FIRST, FIRST_OF_SECOND, FIRST_REFUSED_NEXT, SECOND_REFUSED_LAST,
+    CREATED_PAST_FREE, OTHER_HAS_NAME, SERVED_PAST_OTHERS, SERVED_AHEAD_OF_OTHERS, NONE_OWN_QUEUED, PARTY_CASES
+};
+_Static_assert(PARTY_CASES <= 32, "a set of cases fits a word");
+
 /* The parts of soundness, a bit each in what oracle_broken gives. */
 enum part {
     PART_HEADER_SHORT, PART_SLOTS_BELOW, PART_SLOTS_ABOVE, PART_WORDS, PART_TPS, PART_CLOCK_SET, PART_SECONDS,
-    PART_CLOCK_TICKS, PART_ZERO, PART_INITIATED, PART_UNSET_CLOCK, PART_UNSET_DATED,
+    PART_CLOCK_TICKS, PART_SPLIT, PART_INITIATED, PART_UNSET_CLOCK, PART_UNSET_DATED,
     PART_KIND, PART_SERVER_KIND, PART_FREE, PART_NEVER_NAME, PART_NEVER_REST, PART_NAME, PART_ROUTINE, PART_INTERVAL,
     PART_NO_INTERVAL, PART_IDLE_WAIT, PART_IDLE_LINKS,
     PART_TICKING_CHAIN, PART_TICKING_PREVIOUS, PART_FIRST_WAIT, PART_LEFT,
@@ -188,6 +206,7 @@ extern const char *const event_texts[EVENTS];
 extern const char *const turn_texts[TURNS];
 extern const char *const date_case_texts[DATE_CASES];
 extern const char *const leap_case_texts[LEAP_CASES];
+extern const char *const party_case_texts[PARTY_CASES];
 extern const char *const part_texts[PARTS];
 
 /* What the call gives on this state, and the state after it. */
@@ -214,9 +233,18 @@ void oracle_decode(const uint32_t *table, struct oracle *state);
 bool oracle_seconds_of(const struct hc_wall_time *time, uint32_t *seconds);
 void oracle_date_of(uint32_t seconds, struct hc_wall_time *time);
 
-/* May this call be refused for this reason; may it be refused with the first status while the second applies too. */
+/* The number of a reason in the orders of refusal: its status, or WRONG_PARTY. */
+uint32_t oracle_refusal(enum reason reason);
+
+/* May this call be refused for this reason; may it be refused with the first number while the second applies too. */
 bool oracle_possible(enum call_kind kind, enum reason reason);
 bool oracle_pair_possible(enum call_kind kind, uint32_t first, uint32_t second);
+
+/* May this call come to that for the parties. */
+bool oracle_party_case_possible(enum call_kind kind, enum party_case party_case);
+
+/* Does the party, 1 or 2, have that slot. */
+bool oracle_party_has(const struct oracle *state, uint32_t party, uint32_t index);
 
 /* What an accepted tick, set clock or leap came to that gave this and left this state; and may this call come to that. */
 uint32_t oracle_turns(const struct oracle *after, const struct outcome *outcome);
@@ -233,14 +261,15 @@ uint64_t oracle_leap_cases(const struct call *call, const struct oracle *after, 
 /* The ticks until the first timer is due, by interval or by date; UINT64_MAX if none waits. */
 uint64_t oracle_ticks_to_due(const struct oracle *state);
 
-/* Does the call take an id. */
+/* Does the call take an id, or a party. */
 bool oracle_takes_id(enum call_kind kind);
+bool oracle_takes_party(enum call_kind kind);
 
 /* May the call be accepted, or refused, with the id of a timer of this kind, or by serve for a timer of this kind. */
 bool oracle_takes(enum call_kind kind, uint32_t timer_kind);
 bool oracle_refuses(enum call_kind kind, uint32_t timer_kind);
 
-/* Does the call, where it is accepted, take a queued timer of this kind off the queue by its id. */
+/* Does the call, where it is accepted, take a queued timer of this kind off the queue. */
 bool oracle_takes_off(enum call_kind kind, uint32_t timer_kind);
 
 /* May a timer be of this kind when this befell it last. */

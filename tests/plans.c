@@ -40,14 +40,6 @@ static uint32_t call_library(const void *arguments)
                       : hc_plan_check(lent_jobs, c->words, c->end, lent_starts, c->count);
 }
 
-static uint32_t *lend_words(struct lent *memory, const uint32_t *words, size_t count, bool at_start)
-{
-    uint32_t *at = slice_of(memory, count, at_start);
-    memcpy(at, words, count * sizeof *words);
-    memcpy(expected_of(memory, at), words, count * sizeof *words);
-    return at;
-}
-
 /* ---- Failure ---- */
 
 enum { CALL_TEXT = 500 };
@@ -75,16 +67,9 @@ static const char *describe(const struct plan_call *c)
     return text;
 }
 
-static void compare_words(const struct plan_call *c, const struct lent *memory, const uint32_t *slice, const char *what)
-{
-    if (memcmp(memory->base, memory->expected, memory->total * sizeof(uint32_t)) == 0)
-        return;
-    size_t i = 0;
-    while (memory->base[i] == memory->expected[i])
-        i++;
-    fail("%s: %s word %td: expected %" PRIu32 ", came %" PRIu32, describe(c), what, memory->base + i - slice,
-         memory->expected[i], memory->base[i]);
-}
+static const struct plan_call *tried;
+
+static const char *describe_tried(void) { return describe(tried); }
 
 /* ---- What the request says ---- */
 
@@ -203,7 +188,7 @@ static uint32_t check_rules(const struct plan_call *c)
     bool small = c->end <= 256 && !(rules >> ENDS_LATE & 1);
     bool share = share_by_order(c, both);
     if (small && rules == 0 && share != share_by_ticks(c, both))
-        fail("the test itself: %s: expected one answer of both ways to see an overlap, came two", describe(c));
+        fail("the test itself: expected one answer of both ways to see an overlap, came two");
     return rules | (uint32_t)share << OVERLAP;
 }
 
@@ -270,6 +255,7 @@ static void report(uint64_t seed)
         if (by_pair[pairs[i][0]][pairs[i][1]][pairs[i][2]] == 0)
             printf("  not met: %s refused with %" PRIu32 " where %" PRIu32 " applies too\n", pairs[i][0] ? "plan" : "check",
                    pairs[i][1], pairs[i][2]), missing++;
+    place.describe = NULL;
     if (missing)
         fail("expected every rule to be met, came %u that were not", missing);
 }
@@ -280,18 +266,19 @@ static void expect_status(const struct plan_call *c, uint32_t rules, uint32_t ca
 {
     uint32_t expected = expected_status(rules);
     if (came != expected)
-        fail("%s: expected status %" PRIu32 ", came %" PRIu32, describe(c), expected, came);
+        fail("expected status %" PRIu32 ", came %" PRIu32, expected, came);
     note(c, rules, came);
     calls++;
 }
 
 static void check(const struct plan_call *c, bool at_start)
 {
+    tried = c;
     lent_jobs = lend_words(JOBS_MEMORY, c->jobs, c->words, at_start);
     lent_starts = lend_words(STARTS_MEMORY, c->starts, c->count, at_start);
     expect_status(c, check_rules(c), watched(call_library, c));
-    compare_words(c, JOBS_MEMORY, lent_jobs, "jobs");
-    compare_words(c, STARTS_MEMORY, lent_starts, "starts");
+    compare_memory(JOBS_MEMORY, lent_jobs, "jobs");
+    compare_memory(STARTS_MEMORY, lent_starts, "starts");
 }
 
 /* What the list is given must be a plan, by the words of the request; the header says which. */
@@ -302,7 +289,7 @@ static void expect_plan(const struct plan_call *c, const uint32_t *list)
     plan.planner = false, plan.count = c->words / 2;
     memcpy(plan.starts, list, plan.count * sizeof *list);
     if (check_rules(&plan) != 0)
-        fail("%s: expected a plan, came %s", describe(c), describe(&plan));
+        fail("expected a plan, came %s", describe(&plan));
     for (size_t i = 0; i < plan.count; i++) {
         *expected_of(LIST_MEMORY, list + i) = (uint32_t)ends[bench_of(c, i)];
         ends[bench_of(c, i)] += ticks_of(c, i);
@@ -311,15 +298,15 @@ static void expect_plan(const struct plan_call *c, const uint32_t *list)
 
 static void plan(struct plan_call *c, bool at_start, bool by_search)
 {
-    c->planner = true;
+    tried = c, c->planner = true;
     lent_jobs = lend_words(JOBS_MEMORY, c->jobs, c->words, at_start);
     lent_starts = slice_of(LIST_MEMORY, c->count, at_start);
     uint32_t rules = plan_rules(c, by_search), status = watched(call_library, c);
     expect_status(c, rules, status);
     if (status == HC_SUCCESSFUL)
         expect_plan(c, lent_starts);
-    compare_words(c, JOBS_MEMORY, lent_jobs, "jobs");
-    compare_words(c, LIST_MEMORY, lent_starts, "list");
+    compare_memory(JOBS_MEMORY, lent_jobs, "jobs");
+    compare_memory(LIST_MEMORY, lent_starts, "list");
     c->planner = false;
 }
 
@@ -338,6 +325,7 @@ static uint32_t power(uint32_t base, size_t exponent) { return exponent == 0 ? 1
 static void every_plan(struct plan_call *c, uint32_t limit)
 {
     bool some = false;
+    tried = c;
     lent_jobs = lend_words(JOBS_MEMORY, c->jobs, c->words, false);
     lent_starts = slice_of(STARTS_MEMORY, c->count, false);
     for (uint32_t n = 0; n < power(limit, c->count); n++) {
@@ -347,9 +335,10 @@ static void every_plan(struct plan_call *c, uint32_t limit)
         expect_status(c, check_rules(c), status);
         some |= status == HC_SUCCESSFUL;
     }
-    memcpy(expected_of(STARTS_MEMORY, lent_starts), lent_starts, c->count * sizeof *c->starts);
+    memcpy(expected_of(STARTS_MEMORY, lent_starts), c->starts, c->count * sizeof *c->starts);
+    compare_memory(STARTS_MEMORY, lent_starts, "starts");
     if (plan_exists(c, true) != some)
-        fail("the test itself: %s: expected the search to find a plan among all starts", describe(c));
+        fail("the test itself: expected the search to find a plan exactly if one of all starts is, came another");
     c->count += below(2);
     plan(c, one_in(2), true);
 }
@@ -475,6 +464,7 @@ int main(int count, char **arguments)
     static struct plan_call c;
     begin("plans", seed);
     lend();
+    place.describe = describe_tried;
     edges();
     many_jobs();
     for (size_t jobs = 0; jobs <= 2; jobs++)

@@ -8,7 +8,7 @@
 #include <string.h>
 
 static struct outcome expected;
-static uint64_t calls, cut_slices, locked_tables, started_tables, table_pairs;
+static uint64_t calls, cut_slices, locked_tables, started_tables, table_pairs, one_party_calls, in_seconds[2];
 static uint32_t longest_queue;
 
 /* One slice for the sequence. A locked one has its words past the table in a page that may not be touched: the length that
@@ -61,6 +61,8 @@ static void make(struct sequence *s, const struct call *c)
     go_to(s, c, s->table);
     oracle_call(&s->oracle, c, &expected);
     try_call(&expected, &s->oracle);
+    one_party_calls += s->oracle.split == 0;
+    in_seconds[expected.status == HC_SUCCESSFUL] += c->in_seconds;
     if (s->oracle.queued > longest_queue)
         longest_queue = s->oracle.queued;
 }
@@ -100,6 +102,8 @@ static void next_call(struct sequence *s)
         return;
     }
     random_call(&s->oracle, &c);
+    if (c.kind == FIRE_AFTER && one_in(4))
+        tell_in_seconds(&c, s->oracle.ticks_per_second);
     c.words = s->capacity;
     if (s->capacity == s->reachable && one_in(30)) {
         make_cut(s, &c);
@@ -113,10 +117,12 @@ static void next_call(struct sequence *s)
 /* Takes every slot, so that large tables are not mostly free. */
 static void fill_table(struct sequence *s)
 {
-    struct call c = {.kind = LAY_OUT, .words = s->capacity, .slots = s->most, .ticks_per_second = random_ticks_per_second()};
+    struct call c = {.kind = LAY_OUT, .words = s->capacity, .slots = s->most, .ticks_per_second = random_ticks_per_second(),
+                     .split = random_split(s->most)};
     make(s, &c);
-    for (uint32_t i = 0; i < s->most; i++) {
-        struct call create = {.kind = CREATE, .words = s->capacity, .name = 1 + below(300)};
+    for (uint32_t i = 1; i <= s->most; i++) {
+        struct call create = {.kind = CREATE, .words = s->capacity, .party = oracle_party_has(&s->oracle, 1, i) ? 1 : 2,
+                              .name = 1 + below(300)};
         make(s, &create);
     }
 }
@@ -142,7 +148,7 @@ static void try_two_tables(void)
         uint32_t chosen = below(2);
         const struct sequence *other = &pair[1 - chosen];
         next_call(&pair[chosen]);
-        compare_other(other->memory, other->table);
+        compare_table(other->memory, other->table, "in another table, ");
     }
 }
 
@@ -160,14 +166,19 @@ int main(int count, char **arguments)
     }
     printf("sequences: seed %" PRIu64 ", %" PRIu64 " calls on %" PRIu64 " tables (%" PRIu64 " with the words past them "
            "locked, %" PRIu64 " with those before them), %" PRIu64 " pairs in turn, %" PRIu64 " calls on slices cut short, "
-           "up to %" PRIu32 " timers queued\n",
-           seed, calls, place.table, locked_tables, started_tables, table_pairs, cut_slices, longest_queue);
+           "%" PRIu64 " calls on tables of one party, %" PRIu64 " starts in seconds accepted and %" PRIu64 " refused, up to "
+           "%" PRIu32 " timers queued\n",
+           seed, calls, place.table, locked_tables, started_tables, table_pairs, cut_slices, one_party_calls, in_seconds[1],
+           in_seconds[0], longest_queue);
     report_met();
     unsigned missing = statuses_not_met() + kinds_not_met() + turns_not_met(TURNS_OF_CALLS) + queue_not_met() +
-                       cancels_not_met() + date_cases_not_met() + leap_cases_not_met();
+                       cancels_not_met() + date_cases_not_met() + leap_cases_not_met() + parties_not_met() +
+                       others_not_met();
     place.call = NULL, place.table = 0;
     if (missing)
         fail("%u cases were not met", missing);
+    if (in_seconds[0] == 0 || in_seconds[1] == 0)
+        fail("expected starts in seconds, some accepted and some refused, came none of one sort");
     if (longest_queue < LONG_QUEUE)
         fail("expected %d timers or more to be queued at times, came at most %" PRIu32, LONG_QUEUE, longest_queue);
     return 0;

@@ -15,7 +15,7 @@ HEAD = """# Wrong answers
 
 Each row is an edit of the code or of a definition (`crates/CRATE/must-fail/EDIT.edit`) that gives a wrong answer. The gate tries every one, and the
 prover refuses it: at the needs of a function's proof, or at the theorems of a file. What is refused only because it cites something refused is left
-out. Every public function has two wrong answers or more; `model` has no function, and its edits are of definitions.
+out. Every public function has two wrong answers or more; `model`, `demand`, `isolation` and `order` have no function, and their edits are of definitions.
 """
 
 

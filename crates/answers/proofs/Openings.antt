@@ -11,9 +11,9 @@ use Rattle.model.specs.Lists.{All}
 use Rattle.model.specs.Status.{Refusal, numberOf, firstOf}
 use Rattle.model.specs.Calls.{Call, lentTo, answerCount}
 use Rattle.model.specs.Outcome.{outcomeOf, outcome}
-use Rattle.model.proofs.ListLaws.{clash}
-use Rattle.model.proofs.AcceptedCalls.{noRule}
-use Rattle.model.proofs.OutcomeLaws.{status-is, refused-by}
+use Rattle.laws.proofs.ListLaws.{clash}
+use Rattle.laws.proofs.AcceptedCalls.{noRule}
+use Rattle.laws.proofs.OutcomeLaws.{status-is, refused-by}
 use Rattle.answers.specs.declared.Answer.{Answer}
 use Rattle.answers.specs.declared.Answer.the-variants.{Done, Refused}
 use Rattle.answers.specs.Answers.{statusOf, answerOf}

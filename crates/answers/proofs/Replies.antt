@@ -16,9 +16,9 @@ use Rattle.model.specs.Directives.{refusals, effect}
 use Rattle.model.specs.Words.{writtenOver, read, clockSet}
 use Rattle.model.specs.Sound.{sound}
 use Rattle.model.specs.Outcome.{outcomeOf, refused, written, accepted, outcome}
-use Rattle.model.proofs.SoundHolds.{sound-holds}
-use Rattle.model.proofs.AcceptedCalls.{noRule, none-given, first-given}
-use Rattle.model.proofs.OutcomeLaws.{status-is, outcome-accepted, refused-by}
+use Rattle.laws.proofs.SoundHolds.{sound-holds}
+use Rattle.laws.proofs.AcceptedCalls.{noRule, none-given, first-given}
+use Rattle.laws.proofs.OutcomeLaws.{status-is, outcome-accepted, refused-by}
 
 -- the rules of a call on a table
 abbrev pub rules : List ℕ → Call → List Refusal

@@ -13,9 +13,9 @@ use Rattle.model.specs.declared.Chain.{Chain}
 use Rattle.model.specs.declared.Chain.the-variants.{ByTicks, ByDate, Queue}
 use Rattle.model.specs.State.{Slot}
 use Rattle.model.specs.Words.{word, field, headWord, slotFrom, kindOf, nameOf, intervalOf, waitOf, routineOf, dataOf, nextOf, previousOf}
-use Rattle.model.proofs.ListLaws.{cases}
-use Rattle.model.proofs.EachPlace.{end, _&_, each-at}
-use Rattle.model.proofs.StateWords.{linkWord}
+use Rattle.laws.proofs.ListLaws.{cases}
+use Rattle.laws.proofs.EachPlace.{end, _&_, each-at}
+use Rattle.laws.proofs.StateWords.{linkWord}
 use Rattle.chains.specs.EditedWords.{fieldWord, followerPut, previousPut, linksPut, relinked, waitWithout, waitBehind, extractedWords, FirstExtractable}
 
 -- ---- where words stand

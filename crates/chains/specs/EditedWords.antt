@@ -7,7 +7,7 @@ use lib.ListN.{length, set}
 use Rattle.model.specs.declared.Chain.{Chain}
 use Rattle.model.specs.declared.Chain.the-variants.{ByTicks, ByDate, Queue}
 use Rattle.model.specs.Words.{word, waitOf, nextOf, previousOf}
-use Rattle.model.proofs.StateWords.{linkWord}
+use Rattle.laws.proofs.StateWords.{linkWord}
 
 -- where word f of slot i stands
 abbrev pub fieldWord : ℕ → ℕ → ℕ

@@ -6,7 +6,7 @@ ghost use mathlib.Core.Path.{_≡_};
 ghost use Prim.Native.Nat.{_+_, _*_, _<_, _≤_};
 ghost use lib.ListN.{length, set};
 ghost use Rattle.model.specs.Words.{word, headWord, waitOf, nextOf};
-ghost use Rattle.model.proofs.StateWords.{linkWord};
+ghost use Rattle.laws.proofs.StateWords.{linkWord};
 ghost use Rattle.chains.specs.EditedWords.{followerPut, linksPut, waitWithout, waitBehind, previousPut, extractedWords, insertedWords, Extractable, FirstExtractable, Insertable};
 use model::Chain;
 use table::FIRST_DATED;

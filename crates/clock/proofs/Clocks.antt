@@ -26,10 +26,10 @@ use Rattle.model.specs.Directives.{notSettable, clockAt, ticked, movedBy, numbe
 use Rattle.model.specs.Words.{read, ticksPerSecond, seconds, ticksInto}
 use Rattle.model.specs.Sound.{sound}
 use Rattle.model.specs.Outcome.{Outcome, outcomeOf, statusOn, outcome, movement}
-use Rattle.model.proofs.ListLaws.{cases, and-both}
-use Rattle.model.proofs.StatusLaws.{not-zero}
-use Rattle.model.proofs.OutcomeLaws.{outcome-status}
-use Rattle.model.proofs.SoundHolds.{sound-header}
+use Rattle.laws.proofs.ListLaws.{cases, and-both}
+use Rattle.laws.proofs.StatusLaws.{not-zero}
+use Rattle.laws.proofs.OutcomeLaws.{outcome-status}
+use Rattle.laws.proofs.SoundHolds.{sound-header}
 use Rattle.firing.specs.Lists.{Leaves}
 use Rattle.firing.proofs.Ticks.{movedTo}
 use Rattle.leaping.specs.Leaps.{Ready, LeapLeaves}

@@ -8,7 +8,7 @@ use lib.ListN.{length}
 use borrow.Author.Tests.{le-ltb, lt-ltb}
 use Rattle.model.specs.Directives.{isShort}
 use Rattle.model.specs.Words.{read, slotCount}
-use Rattle.model.proofs.ReadBack.{slots-length}
+use Rattle.laws.proofs.ReadBack.{slots-length}
 
 module _ (t list : List ℕ) where
   pub too-short : length list < 3 * slotCount t → isShort (read t) list ≡ true

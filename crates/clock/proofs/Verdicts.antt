@@ -6,7 +6,7 @@ use mathlib.Core.List.{List, [], _∷_}
 use Rattle.model.specs.State.{Link}
 use Rattle.model.specs.Words.{read}
 use Rattle.model.specs.Sound.{sound}
-use Rattle.model.proofs.ListLaws.{cases}
+use Rattle.laws.proofs.ListLaws.{cases}
 use Rattle.links.specs.Places.{lastSlot}
 use Rattle.firing.specs.Lists.{EndsAt}
 use Rattle.server_check.specs.LastSlots.{lastAfter, lastQueued}

@@ -13,59 +13,28 @@ use calendar::WallTime;
 use clock::*;
 use libc::STDIN_FILENO;
 use libc::STDOUT_FILENO;
+use recording::*;
 use server::*;
 use starts::*;
+use table::PARTY_1;
 use table::SLOT_COUNT;
 use table::TICKS_PER_SECOND;
 use timer::*;
 
-// The calls, numbered as in `model`; their arguments come in its order. A wall time is two words: 20000229 235959 is the last second of
-// 2000-02-29; set clock has its ticks as a third, 0 where it is left out. Serve has the word from which on it is lent the list: 6 lends it three
-// words of the nine, 7 two, 9 none.
+// Lay out is call 1, and crate `recording` numbers the others; their arguments come in the order of `model`. A wall time is two words:
+// 20000229 235959 is the last second of 2000-02-29; set clock has its ticks as a third, 0 where it is left out. Serve has the word from which on it is
+// lent the list: 6 lends it three words of the nine, 7 two, 9 none. Lay out has L as its third, 0 where it is left out. The caller is party 1 until a
+// step says another.
 const LAY_OUT: u32 = 1;
 
-const CREATE: u32 = 2;
-
-const IDENT: u32 = 3;
-
-const CANCEL: u32 = 4;
-
-const DELETE: u32 = 5;
-
-const FIRE_AFTER: u32 = 6;
-
-const FIRE_WHEN: u32 = 7;
-
-const RESET: u32 = 8;
-
-const TICKS_LEFT: u32 = 9;
-
-const TICK: u32 = 10;
-
-const SET_CLOCK: u32 = 11;
-
-const GET_CLOCK: u32 = 12;
-
-const FIRE_EVERY: u32 = 13;
-
-const NEXT_DUE: u32 = 14;
-
-const INITIATE_SERVER: u32 = 15;
-
-const SERVER_FIRE_AFTER: u32 = 16;
-
-const SERVER_FIRE_WHEN: u32 = 17;
-
-const SERVE: u32 = 18;
-
-const LEAP: u32 = 19;
-
-// Steps that are no calls: none; so many words of the list are printed; a word of the table becomes a number.
+// Steps that are no calls: none; so many words of the list are printed; a word of the table becomes a number; another party calls.
 const NONE: u32 = 0;
 
 const PRINT_LIST: u32 = 50;
 
 const CHANGE_WORD: u32 = 51;
+
+const CALLER: u32 = 52;
 
 // A call that is lent a word too few for three slots, 33 of the table or 8 of the list, has 100 more.
 const SHORT_LAY_OUT: u32 = 101;
@@ -88,7 +57,7 @@ const LIST: usize = 9;
 const MOST: u32 = 4294967295;
 
 // The bytes that there is room for in `stdin`.
-const TEXT: usize = 131072;
+const TEXT: usize = 163840;
 
 // The words of a step; those that a line leaves out are zero.
 struct Step {
@@ -199,14 +168,14 @@ fn print_list(list: &[u32; LIST], count: u32) {
 }
 
 // Makes a call that is lent a word too few for three slots. Any other number is no step's.
-fn short_call(number: u32, a: u32, b: u32, table: &mut [u32; TABLE]) -> Answer {
+fn short_call(number: u32, party: u32, a: u32, b: u32, c: u32, table: &mut [u32; TABLE]) -> Answer {
     let mut list = [0u32; LIST - 1];
     let mut cut = [0u32; TABLE - 1];
     cut[SLOT_COUNT] = 3;
     cut[TICKS_PER_SECOND] = 10;
     match number {
-        SHORT_LAY_OUT => lay_out(&mut cut, a, b),
-        SHORT_CREATE => create(&mut cut, a),
+        SHORT_LAY_OUT => lay_out(&mut cut, a, b, c),
+        SHORT_CREATE => create(&mut cut, party, a),
         SHORT_NEXT_DUE => next_due::next_due(&cut),
         SHORT_TICK => tick(table, &mut list),
         _ => Answer::Done(MOST),
@@ -214,17 +183,18 @@ fn short_call(number: u32, a: u32, b: u32, table: &mut [u32; TABLE]) -> Answer {
 }
 
 // Serves, with the list lent from a word on. A word past its end is no step's.
-fn serve_from(table: &mut [u32; TABLE], list: &mut [u32], word: u32) -> Answer {
+fn serve_from(table: &mut [u32; TABLE], party: u32, list: &mut [u32], word: u32) -> Answer {
     let from = word as usize;
     if from > list.len() {
         return Answer::Done(MOST);
     }
-    serve(table, &mut list[from..])
+    serve(table, party, &mut list[from..])
 }
 
 // Makes a call. The ticks of a fire when's wall time are not zero, and do not count.
 fn call(
     number: u32,
+    party: u32,
     a: u32,
     b: u32,
     c: u32,
@@ -234,27 +204,28 @@ fn call(
     list: &mut [u32; LIST],
 ) -> Answer {
     match number {
-        LAY_OUT => lay_out(table, a, b),
-        CREATE => create(table, a),
-        IDENT => ident(table, a),
-        CANCEL => cancel(table, a),
-        DELETE => delete(table, a),
-        FIRE_AFTER => fire_after(table, a, b, c, d),
-        FIRE_WHEN => fire_when(table, a, wall_time(b, c, MOST), d, e),
-        FIRE_EVERY => fire_every(table, a, b, c, d),
-        RESET => reset(table, a),
-        TICKS_LEFT => ticks_left(table, a),
+        LAY_OUT => lay_out(table, a, b, c),
+        CREATE => create(table, party, a),
+        IDENT => ident(table, party, a),
+        CANCEL => cancel(table, party, a),
+        DELETE => delete(table, party, a),
+        FIRE_AFTER => fire_after(table, party, a, b, c, d),
+        FIRE_WHEN => fire_when(table, party, a, wall_time(b, c, MOST), d, e),
+        FIRE_EVERY => fire_every(table, party, a, b, c, d),
+        RESET => reset(table, party, a),
+        TICKS_LEFT => ticks_left(table, party, a),
         TICK => tick(table, list),
         NEXT_DUE => next_due::next_due(table),
         INITIATE_SERVER => initiate_server(table),
-        SERVER_FIRE_AFTER => server_fire_after(table, a, b, c, d),
-        SERVER_FIRE_WHEN => server_fire_when(table, a, wall_time(b, c, MOST), d, e),
-        SERVE => serve_from(table, list, a),
+        SERVER_FIRE_AFTER => server_fire_after(table, party, a, b, c, d),
+        SERVER_FIRE_WHEN => server_fire_when(table, party, a, wall_time(b, c, MOST), d, e),
+        SERVE => serve_from(table, party, list, a),
+        CALLER => Answer::Done(a),
         CHANGE_WORD => {
             table[a as usize % TABLE] = b;
             Answer::Done(b)
         }
-        _ => short_call(number, a, b, table),
+        _ => short_call(number, party, a, b, c, table),
     }
 }
 
@@ -271,7 +242,7 @@ fn leap_short(table: &mut [u32; TABLE], ticks: u32) {
 }
 
 // Takes a step and prints what comes of it.
-fn play(step: Step, table: &mut [u32; TABLE], list: &mut [u32; LIST]) {
+fn play(step: Step, party: u32, table: &mut [u32; TABLE], list: &mut [u32; LIST]) {
     let number = step.number;
     match number {
         NONE => {}
@@ -281,7 +252,17 @@ fn play(step: Step, table: &mut [u32; TABLE], list: &mut [u32; LIST]) {
         SHORT_LEAP => leap_short(table, step.a),
         GET_CLOCK => show_reading(get_clock(table)),
         PRINT_LIST => print_list(list, step.a),
-        _ => show(call(number, step.a, step.b, step.c, step.d, step.e, table, list)),
+        _ => show(call(
+            number,
+            party,
+            step.a,
+            step.b,
+            step.c,
+            step.d,
+            step.e,
+            table,
+            list,
+        )),
     }
 }
 
@@ -338,15 +319,25 @@ fn step_of(line: &[u8]) -> Step {
     }
 }
 
+// Who calls after a step.
+fn caller_after(step: Step, party: u32) -> u32 {
+    if step.number == CALLER {
+        return step.a;
+    }
+    party
+}
+
 // Runs the lines of a text, each with the newline before it.
 fn run(text: &[u8]) {
     let mut table = [0u32; TABLE];
     let mut list = [0u32; LIST];
+    let mut party = PARTY_1;
     let mut at = 0;
     while at < text.len() {
         let end = find(text, at + 1, b'\n');
         let step = step_of(&text[at..end]);
-        play(step, &mut table, &mut list);
+        party = caller_after(step, party);
+        play(step, party, &mut table, &mut list);
         at = end;
     }
 }

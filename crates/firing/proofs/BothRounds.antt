@@ -15,10 +15,10 @@ use Rattle.model.specs.Kinds.{kindAt, forServer}
 use Rattle.model.specs.State.{Link, State, chainOf, slotAt, idBase}
 use Rattle.model.specs.Directives.{due, fire}
 use Rattle.model.specs.Words.{word, read, writtenOver, slotCount}
-use Rattle.model.proofs.ListLaws.{cases, all-keep, all-mapped, length-keep}
-use Rattle.model.proofs.Chains.{InSlots, in-slots}
-use Rattle.model.proofs.ReadBack.{slots-length, over-over}
-use Rattle.model.proofs.Steps.{length-fire, chained-fire}
+use Rattle.laws.proofs.ListLaws.{cases, all-keep, all-mapped, length-keep}
+use Rattle.laws.proofs.Chains.{InSlots, in-slots}
+use Rattle.laws.proofs.ReadBack.{slots-length, over-over}
+use Rattle.laws.proofs.Steps.{length-fire, chained-fire}
 use Rattle.links.proofs.NextState.{Next, next-start, next-read, next-holds, next-then}
 use Rattle.firing.specs.Lists.{EndsAt, Room, Tally, offAll, dueListed, TakesOff, Fires}
 use Rattle.going_on.specs.GoingBack.{wentBack, backAll, slotsIn, Entries}

@@ -9,10 +9,10 @@ use lib.ListN.{length}
 use lib.Dec.{eqb}
 use borrow.Author.Tests.{eqb-true, eqb-false}
 use Rattle.model.specs.State.{Slot, Link, free, slotAt, putAt}
-use Rattle.model.proofs.ListLaws.{cases, any-some}
-use Rattle.model.proofs.Slots.{at-other, length-put, field-put}
-use Rattle.model.proofs.WellFormed.{timesIn}
-use Rattle.model.proofs.FiredSlots.{among}
+use Rattle.laws.proofs.ListLaws.{cases, any-some}
+use Rattle.laws.proofs.Slots.{at-other, length-put, field-put}
+use Rattle.laws.proofs.WellFormed.{timesIn}
+use Rattle.laws.proofs.FiredSlots.{among}
 
 abbrev pub changed : (Slot → Slot) → List Link → List Slot → List Slot
 changed f [] sl = sl

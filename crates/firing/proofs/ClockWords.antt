@@ -13,8 +13,8 @@ use Rattle.calendar.specs.Calendar.{lastSecond}
 use Rattle.model.specs.State.{Clock, State, withClock}
 use Rattle.model.specs.Directives.{clockAt, clockStep}
 use Rattle.model.specs.Words.{first, allSlots, writtenOver, read, ticksPerSecond, clockSet, seconds, ticksInto}
-use Rattle.model.proofs.WellFormed.{Holds}
-use Rattle.model.proofs.ClockSteps.{clock-unset}
+use Rattle.laws.proofs.WellFormed.{Holds}
+use Rattle.laws.proofs.ClockSteps.{clock-unset}
 use Rattle.links.proofs.Storing.{same-slots}
 
 -- ---- the words
@@ -22,7 +22,8 @@ use Rattle.links.proofs.Storing.{same-slots}
 -- the words of s with words 2 to 4 as given
 abbrev clockStored : State → ℕ → ℕ → ℕ → List ℕ → List ℕ
 clockStored s isSet second into rest =
-    length (s .slots) ∷ s .clock .perSecond ∷ isSet ∷ second ∷ into ∷ first (s .ticking) ∷ first (s .dated) ∷ 0 ∷ cond (s .server) 1 0 ∷ first (s .queue) ∷ rest
+    length (s .slots) ∷ s .clock .perSecond ∷ isSet ∷ second ∷ into ∷ first (s .ticking) ∷ first (s .dated) ∷ s .split ∷ cond (s .server) 1 0
+    ∷ first (s .queue) ∷ rest
 
 module _ (t : List ℕ) (s : State) (is : writtenOver s t ≡ t) (second into : ℕ) where
   same : allSlots s 1 (s .slots) (drop (10 + 8 * length (s .slots)) t)

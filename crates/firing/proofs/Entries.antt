@@ -9,8 +9,8 @@ use lib.Seq.{getD-set-same, getD-set-other, sets, sets-eq}
 use Rattle.model.specs.State.{Slot, Link, slotAt, Fired, listed, idBase}
 use Rattle.model.specs.Words.{word}
 use Rattle.model.specs.Outcome.{entryWords, written}
-use Rattle.model.proofs.Slots.{Memo, memo}
-use Rattle.model.proofs.ListWords.{length-entries}
+use Rattle.laws.proofs.Slots.{Memo, memo}
+use Rattle.laws.proofs.ListWords.{length-entries}
 use Rattle.going_on.specs.GoingBack.{slotsIn}
 use Rattle.firing.proofs.TwoRounds.{slotsOf}
 

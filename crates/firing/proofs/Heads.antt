@@ -9,8 +9,8 @@ use lib.ListN.{length}
 use Rattle.model.specs.declared.Chain.{Chain}
 use Rattle.model.specs.State.{Link, chainOf}
 use Rattle.model.specs.Words.{first, word, headWord, read, waitOf, nextOf, previousOf}
-use Rattle.model.proofs.WellFormed.{Holds}
-use Rattle.model.proofs.StateWords.{holds-parts}
+use Rattle.laws.proofs.WellFormed.{Holds}
+use Rattle.laws.proofs.StateWords.{holds-parts}
 use Rattle.links.proofs.LinkInMiddle.{mid-stands, mid-own}
 use Rattle.links.proofs.WalkToPlace.{differ-zero}
 

@@ -14,10 +14,10 @@ use Rattle.model.specs.declared.Chain.the-variants.{ByTicks, ByDate, Queue}
 use Rattle.model.specs.Lists.{All}
 use Rattle.model.specs.State.{Link, State, slotAt, withChain}
 use Rattle.model.specs.Words.{first, nextIn, previousIn, waitIn, slotWords, write, writtenOver, word, field, read, firstTicking, waitOf}
-use Rattle.model.proofs.ListLaws.{cases}
-use Rattle.model.proofs.EachPlace.{end, _&_, each-at}
-use Rattle.model.proofs.WellFormed.{Holds}
-use Rattle.model.proofs.StateWords.{headWords, Spelled, holds-spelled, spelled-over}
+use Rattle.laws.proofs.ListLaws.{cases}
+use Rattle.laws.proofs.EachPlace.{end, _&_, each-at}
+use Rattle.laws.proofs.WellFormed.{Holds}
+use Rattle.laws.proofs.StateWords.{headWords, Spelled, holds-spelled, spelled-over}
 use Rattle.firing.specs.Nearer.{closerBy, nearerBy, Nearable}
 use Rattle.firing.proofs.Heads.{Front, no-front}
 

@@ -18,13 +18,13 @@ use Rattle.model.specs.State.{Slot, Link, State, chainOf, slotAt, without, idBa
 use Rattle.model.specs.Directives.{stopped, idled, due, withoutServer}
 use Rattle.model.specs.Words.{first, word, headWord, slotFrom, read, writtenOver, kindOf, waitOf, routineOf, dataOf, nextOf}
 use Rattle.model.specs.Outcome.{entryWords}
-use Rattle.model.proofs.ListLaws.{cases, clash, all, all-map, keep-none, keep-on}
-use Rattle.model.proofs.WellFormed.{timesIn, Holds}
-use Rattle.model.proofs.Chains.{times-own, without-none, once}
-use Rattle.model.proofs.KindLaws.{on-numbers, chain-sym, periodic}
-use Rattle.model.proofs.Slots.{Memo, memo}
-use Rattle.model.proofs.StateWords.{length-over}
-use Rattle.model.proofs.ReadBack.{slots-length, slot-read, over-over}
+use Rattle.laws.proofs.ListLaws.{cases, clash, all, all-map, keep-none, keep-on}
+use Rattle.laws.proofs.WellFormed.{timesIn, Holds}
+use Rattle.laws.proofs.Chains.{times-own, without-none, once}
+use Rattle.laws.proofs.KindLaws.{on-numbers, chain-sym, periodic}
+use Rattle.laws.proofs.Slots.{Memo, memo}
+use Rattle.laws.proofs.StateWords.{length-over}
+use Rattle.laws.proofs.ReadBack.{slots-length, slot-read, over-over}
 use Rattle.links.proofs.NextState.{Next, next-start, next-read, next-holds, next-then}
 use Rattle.links.specs.Places.{lastSlot, InTable}
 use Rattle.links.proofs.LinkInMiddle.{last-slot}

@@ -16,19 +16,19 @@ use Rattle.model.specs.Directives.{due, fire, withoutServer, nearer, clockAt, c
 use Rattle.model.specs.Words.{read, writtenOver, slotCount, seconds, ticksInto}
 use Rattle.model.specs.Sound.{sound}
 use Rattle.model.specs.Outcome.{entryWords, written}
-use Rattle.model.proofs.ListLaws.{clash, all, keep-on, keep-append, length-keep}
-use Rattle.model.proofs.WellFormed.{Chained, Holds}
-use Rattle.model.proofs.Chains.{fits, fit-both}
-use Rattle.model.proofs.ReadBack.{slots-length}
-use Rattle.model.proofs.KindLaws.{again-not-dated}
-use Rattle.model.proofs.Slots.{Memo, memo}
-use Rattle.model.proofs.Steps.{memo-fire, fire-clock, fire-elsewhere, chained-nearer, chained-with-clock}
-use Rattle.model.proofs.SoundHolds.{sound-holds, sound-well-formed}
+use Rattle.laws.proofs.ListLaws.{clash, all, keep-on, keep-append, length-keep}
+use Rattle.laws.proofs.WellFormed.{Chained, Holds}
+use Rattle.laws.proofs.Chains.{fits, fit-both}
+use Rattle.laws.proofs.ReadBack.{slots-length}
+use Rattle.laws.proofs.KindLaws.{again-not-dated}
+use Rattle.laws.proofs.Slots.{Memo, memo}
+use Rattle.laws.proofs.Steps.{memo-fire, fire-clock, fire-elsewhere, chained-nearer, chained-with-clock}
+use Rattle.laws.proofs.SoundHolds.{sound-holds, sound-well-formed}
 use Rattle.links.proofs.NextState.{Next, next-start, next-read, next-holds, next-then}
 use Rattle.links.specs.Places.{lastSlot}
 use Rattle.firing.specs.Lists.{EndsAt, Room, dueListed, Fires, Leaves}
 use Rattle.firing.proofs.TwoRounds.{isServerAt}
-use Rattle.model.proofs.ListWords.{entries-append, length-entries}
+use Rattle.laws.proofs.ListWords.{entries-append, length-entries}
 use Rattle.firing.proofs.Entries.{sets-append, sets-written, same-entries}
 use Rattle.firing.proofs.BothRounds.{next-fires, fires-list-length}
 

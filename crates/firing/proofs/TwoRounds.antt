@@ -18,16 +18,16 @@ use Rattle.model.specs.Kinds.{Kind, kindEntry, kinds, kindAt, waitingKind, same
 use Rattle.model.specs.Lists.{keep, any, place, All, Sorted}
 use Rattle.model.specs.State.{Slot, Link, State, chainOf, withChain, free, slotAt, putAt, without}
 use Rattle.model.specs.Directives.{stopped, became, idled, inserted, fired, firedAll, reinserted, goOn, due, off, fire, withoutServer}
-use Rattle.model.proofs.ListLaws.{cases, clash, all, all-map, all-keep, all-zip, all-passed, keep-all, keep-none, keep-on, keep-and, count-keep, any-some, any-none}
-use Rattle.model.proofs.Order.{orderOn, orderOn-flat}
-use Rattle.model.proofs.WellFormed.{timesIn, Chained}
-use Rattle.model.proofs.Chains.{times-own, without-none, met, once, once-apart, met-in-range}
-use Rattle.model.proofs.KindLaws.{readAll, on-numbers, chain-sym, none-in, each-chain, stopped-not-in, periodic}
-use Rattle.model.proofs.Slots.{Memo, memo, memo-idled, memo-fired, at-other, field-put, length-firedAll}
-use Rattle.model.proofs.FiredSlots.{among, at-firedAll}
-use Rattle.model.proofs.GoingOn.{goesTo, again, backIn, goOn-slots, goOn-clock, goOn-server, goOn-chain}
-use Rattle.model.proofs.StateWords.{absent}
-use Rattle.model.proofs.Steps.{same-state, with-chain-slots, with-chain-clock, with-chain-server, with-chain-own, with-chain-apart, stopped-chain, chained-stopped, chained-inserted, due-parts, back-kinds, goes-fired}
+use Rattle.laws.proofs.ListLaws.{cases, clash, all, all-map, all-keep, all-zip, all-passed, keep-all, keep-none, keep-on, keep-and, count-keep, any-some, any-none}
+use Rattle.laws.proofs.Order.{orderOn, orderOn-flat}
+use Rattle.laws.proofs.WellFormed.{timesIn, Chained}
+use Rattle.laws.proofs.Chains.{times-own, without-none, met, once, once-apart, met-in-range}
+use Rattle.laws.proofs.KindLaws.{readAll, on-numbers, chain-sym, none-in, each-chain, stopped-not-in, periodic}
+use Rattle.laws.proofs.Slots.{Memo, memo, memo-idled, memo-fired, at-other, field-put, length-firedAll}
+use Rattle.laws.proofs.FiredSlots.{among, at-firedAll}
+use Rattle.laws.proofs.GoingOn.{goesTo, again, backIn, goOn-slots, goOn-clock, goOn-split, goOn-server, goOn-chain}
+use Rattle.laws.proofs.StateWords.{absent}
+use Rattle.laws.proofs.Steps.{same-state, with-chain-slots, with-chain-clock, with-chain-split, with-chain-server, with-chain-own, with-chain-apart, stopped-chain, chained-stopped, chained-inserted, due-parts, back-kinds, goes-fired}
 use Rattle.links.proofs.LinkInMiddle.{times-more}
 use Rattle.going_on.specs.GoingBack.{waitsAgain, backAll}
 use Rattle.going_on.specs.Queueing.{queued}
@@ -143,6 +143,9 @@ off-same f h (w ∷ ws) s = off-same f h ws (offOne s (w .slot)) ∙ h s (w .slo
 
 off-clock : (ws : List Link) (s : State) → offAll ws s .clock ≡ s .clock
 off-clock = off-same (λ s. s .clock) (λ s i. one-same s i (λ z. z .clock) (s .clock) refl refl)
+
+off-split : (ws : List Link) (s : State) → offAll ws s .split ≡ s .split
+off-split = off-same (λ s. s .split) (λ s i. one-same s i (λ z. z .split) (s .split) refl refl)
 
 off-server : (ws : List Link) (s : State) → offAll ws s .server ≡ s .server
 off-server = off-same (λ s. s .server) (λ s i. one-same s i (λ z. z .server) (s .server) refl refl)
@@ -483,6 +486,7 @@ module _ (k : Chain) (apart : sameChain Queue k ≡ false) (limit : ℕ) (s : St
       sym (same-state (fire k limit s) (goOn ls resumedState)
       (goOn-slots ws (off k limit s) ∙ with-chain-slots s fs rest k ∙ fired-is ∙ sym (goOn-slots ls resumedState))
       (goOn-clock ws (off k limit s) ∙ with-chain-clock s fs rest k ∙ sym (off-clock ws s) ∙ sym (goOn-clock ls resumedState))
+      (goOn-split ws (off k limit s) ∙ with-chain-split s fs rest k ∙ sym (off-split ws s) ∙ sym (goOn-split ls resumedState))
       (goOn-server ws (off k limit s) ∙ with-chain-server s fs rest k ∙ sym (off-server ws s) ∙ sym (goOn-server ls resumedState))
       (λ m. goOn-chain ws (off k limit s) m
       ∙ ap (λ (sl : List Slot). orderOn (λ w. w .wait) (chainOf m (off k limit s)) (backIn m sl ws)) (with-chain-slots s fs rest k)

@@ -14,8 +14,8 @@ use Rattle.model.specs.State.{Slot, Link, State, slotAt, idBase, listed}
 use Rattle.model.specs.Directives.{stopped, idled, due, fire, withoutServer, Effect}
 use Rattle.model.specs.Words.{read, writtenOver, kindOf, waitOf, routineOf, dataOf, nextOf, previousOf}
 use Rattle.model.specs.Outcome.{entryWords, written}
-use Rattle.model.proofs.KindLaws.{periodic}
-use Rattle.model.proofs.WellFormed.{Holds}
+use Rattle.laws.proofs.KindLaws.{periodic}
+use Rattle.laws.proofs.WellFormed.{Holds}
 use Rattle.links.specs.Places.{lastSlot, InTable}
 use Rattle.going_on.specs.Queueing.{queued}
 

@@ -5,7 +5,7 @@ use Rattle.model.specs.declared.Chain.the-variants.{ByTicks}
 use Rattle.model.specs.Lists.{All}
 use Rattle.model.specs.State.{Link, State, withChain}
 use Rattle.model.specs.Words.{read}
-use Rattle.model.proofs.WellFormed.{Holds}
+use Rattle.laws.proofs.WellFormed.{Holds}
 
 -- every interval timer comes m ticks nearer
 abbrev pub closerBy : ℕ → Link → Link

@@ -10,7 +10,7 @@ ghost use lib.Seq.{sets};
 ghost use Rattle.model.specs.State.{withClock};
 ghost use Rattle.model.specs.Directives.{clockAt, clockStep};
 ghost use Rattle.model.specs.Words.{read, writtenOver, ticksInto};
-ghost use Rattle.model.proofs.WellFormed.{Holds};
+ghost use Rattle.laws.proofs.WellFormed.{Holds};
 ghost use Rattle.firing.specs.Lists.{Room, ComesOff, CameOff, Turns, tallyOf, Turned, TakesOff, Fires};
 ghost use Rattle.firing.specs.Nearer.{nearerBy, Nearable};
 use chains::follower;
@@ -36,7 +36,7 @@ use table::get;
 use table::put;
 
 // Entry n of the fired list.
-fn put_entry(list: &mut [u32], n: u32, id: u32, routine: u32, user_data: u32)
+pub fn put_entry(list: &mut [u32], n: u32, id: u32, routine: u32, user_data: u32)
     requires { ⌜ (3 * n + 3 ≤ length (now list)) × (n < 256) ⌝ }
     ensures { λ _. ⌜ now (list .exit) ≡ sets (now (list .entry)) (3 * n) (id ∷ routine ∷ user_data ∷ []) ⌝ }
 {

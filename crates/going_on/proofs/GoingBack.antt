@@ -15,10 +15,10 @@ use Rattle.model.specs.Kinds.{waitsIn}
 use Rattle.model.specs.Lists.{place}
 use Rattle.model.specs.State.{Slot, Link, State, slotAt, waitAt, idBase}
 use Rattle.model.specs.Words.{word, read, writtenOver, slotCount, kindOf, intervalOf}
-use Rattle.model.proofs.ListLaws.{cases, count-place}
-use Rattle.model.proofs.WellFormed.{timesIn, Chained, Holds}
-use Rattle.model.proofs.StateWords.{absent, length-over}
-use Rattle.model.proofs.ReadBack.{slots-length, slot-read}
+use Rattle.laws.proofs.ListLaws.{cases, count-place}
+use Rattle.laws.proofs.WellFormed.{timesIn, Chained, Holds}
+use Rattle.laws.proofs.StateWords.{absent, length-over}
+use Rattle.laws.proofs.ReadBack.{slots-length, slot-read}
 use Rattle.links.specs.Places.{InTable, IdleInTable}
 use Rattle.links.proofs.Extracting.{in-none}
 use Rattle.links.proofs.NextState.{Next, next-start, next-read, next-holds, next-then}

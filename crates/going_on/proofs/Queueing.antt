@@ -16,11 +16,11 @@ use Rattle.model.specs.Lists.{All, place}
 use Rattle.model.specs.State.{Slot, Link, State, chainOf, slotAt}
 use Rattle.model.specs.Directives.{stopped, became, fired, idled, inserted}
 use Rattle.model.specs.Words.{writtenOver, read, kindOf}
-use Rattle.model.proofs.ListLaws.{cases}
-use Rattle.model.proofs.WellFormed.{Chained}
-use Rattle.model.proofs.Chains.{without-none}
-use Rattle.model.proofs.ReadBack.{slot-read, over-over}
-use Rattle.model.proofs.Steps.{stopped-chain, chained-inserted, length-inserted}
+use Rattle.laws.proofs.ListLaws.{cases}
+use Rattle.laws.proofs.WellFormed.{Chained}
+use Rattle.laws.proofs.Chains.{without-none}
+use Rattle.laws.proofs.ReadBack.{slot-read, over-over}
+use Rattle.laws.proofs.Steps.{stopped-chain, chained-inserted, length-inserted}
 use Rattle.chains.specs.EditedWords.{fieldWord, insertedWords, Insertable}
 use Rattle.links.specs.Places.{lastSlot, upTo, At, FirstStops}
 use Rattle.links.proofs.Extracting.{in-slots, times-kind}

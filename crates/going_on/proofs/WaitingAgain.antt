@@ -11,10 +11,10 @@ use Rattle.model.specs.Lists.{place}
 use Rattle.model.specs.State.{Slot, State, slotAt, waitAt}
 use Rattle.model.specs.Directives.{became, started}
 use Rattle.model.specs.Words.{accumulated, writtenOver, read}
-use Rattle.model.proofs.WellFormed.{Chained}
-use Rattle.model.proofs.ReadBack.{slot-read}
-use Rattle.model.proofs.Slots.{length-put}
-use Rattle.model.proofs.Steps.{chained-started}
+use Rattle.laws.proofs.WellFormed.{Chained}
+use Rattle.laws.proofs.ReadBack.{slot-read}
+use Rattle.laws.proofs.Slots.{length-put}
+use Rattle.laws.proofs.Steps.{chained-started}
 use Rattle.chains.specs.EditedWords.{fieldWord, insertedWords, Insertable}
 use Rattle.links.specs.Places.{At, IdleInTable}
 use Rattle.going_on.specs.GoingBack.{waitsAgain, Again}

@@ -13,7 +13,7 @@ use Rattle.model.specs.Kinds.{waitingKind}
 use Rattle.model.specs.State.{State, slotAt, waitAt, idBase}
 use Rattle.model.specs.Directives.{stored, became, inserted}
 use Rattle.model.specs.Words.{word, read, writtenOver, slotCount, intervalOf}
-use Rattle.model.proofs.WellFormed.{timesIn, Holds}
+use Rattle.laws.proofs.WellFormed.{timesIn, Holds}
 use Rattle.links.specs.Places.{InTable, IdleInTable, From}
 
 -- an idle periodic timer waits again, for its interval

@@ -45,96 +45,99 @@ fn wall_time(numbers: &[u32; 7]) -> WallTime
 
 // The calls. Each is the call of that name of `timer`, `starts`, `clock`, `next_due` or `server`, with the same arguments.
 #[no_mangle]
-pub extern "C" fn hc_lay_out(table: &mut [u32], slots: u32, rate: u32) -> u32
-    ensures { λ r. ⌜ outcomeOf r (0 ∷ []) (now (table .exit)) [] ≡ outcome (now (table .entry)) (call.layOut slots rate) ⌝ }
+pub extern "C" fn hc_lay_out(table: &mut [u32], slots: u32, rate: u32, split: u32) -> u32
+    ensures { λ r. ⌜ outcomeOf r (0 ∷ []) (now (table .exit)) [] ≡ outcome (now (table .entry)) (call.layOut slots rate split) ⌝ }
 {
-    status_of(timer::lay_out(table, slots, rate))
+    status_of(timer::lay_out(table, slots, rate, split))
 }
 
 #[no_mangle]
-pub extern "C" fn hc_create(table: &mut [u32], name: u32, id: &mut u32) -> u32
-    ensures { λ r. ⌜ outcomeOf r (now (id .exit) ∷ []) (now (table .exit)) [] ≡ outcome (now (table .entry)) (call.create name) ⌝ }
+pub extern "C" fn hc_create(table: &mut [u32], party: u32, name: u32, id: &mut u32) -> u32
+    ensures { λ r. ⌜ outcomeOf r (now (id .exit) ∷ []) (now (table .exit)) [] ≡ outcome (now (table .entry)) (call.create party name) ⌝ }
 {
-    let answer = timer::create(table, name);
+    let answer = timer::create(table, party, name);
     *id = number_in(answer);
     status_of(answer)
 }
 
 #[no_mangle]
-pub extern "C" fn hc_ident(table: &[u32], name: u32, id: &mut u32) -> u32
-    ensures { λ r. ⌜ outcomeOf r (now (id .exit) ∷ []) (now (table .entry)) [] ≡ outcome (now (table .entry)) (call.ident name) ⌝ }
+pub extern "C" fn hc_ident(table: &[u32], party: u32, name: u32, id: &mut u32) -> u32
+    ensures { λ r. ⌜ outcomeOf r (now (id .exit) ∷ []) (now (table .entry)) [] ≡ outcome (now (table .entry)) (call.ident party name) ⌝ }
 {
-    let answer = timer::ident(table, name);
+    let answer = timer::ident(table, party, name);
     *id = number_in(answer);
     status_of(answer)
 }
 
 #[no_mangle]
-pub extern "C" fn hc_cancel(table: &mut [u32], id: u32) -> u32
-    ensures { λ r. ⌜ outcomeOf r (0 ∷ []) (now (table .exit)) [] ≡ outcome (now (table .entry)) (call.cancel id) ⌝ }
+pub extern "C" fn hc_cancel(table: &mut [u32], party: u32, id: u32) -> u32
+    ensures { λ r. ⌜ outcomeOf r (0 ∷ []) (now (table .exit)) [] ≡ outcome (now (table .entry)) (call.cancel party id) ⌝ }
 {
-    status_of(timer::cancel(table, id))
+    status_of(timer::cancel(table, party, id))
 }
 
 #[no_mangle]
-pub extern "C" fn hc_delete(table: &mut [u32], id: u32) -> u32
-    ensures { λ r. ⌜ outcomeOf r (0 ∷ []) (now (table .exit)) [] ≡ outcome (now (table .entry)) (call.delete id) ⌝ }
+pub extern "C" fn hc_delete(table: &mut [u32], party: u32, id: u32) -> u32
+    ensures { λ r. ⌜ outcomeOf r (0 ∷ []) (now (table .exit)) [] ≡ outcome (now (table .entry)) (call.delete party id) ⌝ }
 {
-    status_of(timer::delete(table, id))
+    status_of(timer::delete(table, party, id))
 }
 
 #[no_mangle]
 pub extern "C" fn hc_fire_after(
     table: &mut [u32],
+    party: u32,
     id: u32,
     ticks: u32,
     routine: u32,
     user_data: u32,
 ) -> u32
-    ensures { λ r. ⌜ outcomeOf r (0 ∷ []) (now (table .exit)) [] ≡ outcome (now (table .entry)) (call.fireAfter id ticks routine user_data) ⌝ }
+    ensures { λ r. ⌜ outcomeOf r (0 ∷ []) (now (table .exit)) [] ≡ outcome (now (table .entry)) (call.fireAfter party id ticks routine user_data) ⌝ }
 {
-    status_of(starts::fire_after(table, id, ticks, routine, user_data))
+    status_of(starts::fire_after(table, party, id, ticks, routine, user_data))
 }
 
 #[no_mangle]
 pub extern "C" fn hc_fire_when(
     table: &mut [u32],
+    party: u32,
     id: u32,
     when: &[u32; 7],
     routine: u32,
     user_data: u32,
 ) -> u32
-    ensures { λ r. ⌜ outcomeOf r (0 ∷ []) (now (table .exit)) [] ≡ outcome (now (table .entry)) (call.fireWhen id (wallTime (now (when .entry))) routine user_data) ⌝ }
+    ensures { λ r. ⌜ outcomeOf r (0 ∷ []) (now (table .exit)) [] ≡ outcome (now (table .entry)) (call.fireWhen party id (wallTime (now (when .entry))) routine user_data) ⌝ }
 {
     let date = wall_time(when);
-    status_of(starts::fire_when(table, id, date, routine, user_data))
+    status_of(starts::fire_when(table, party, id, date, routine, user_data))
 }
 
 #[no_mangle]
 pub extern "C" fn hc_fire_every(
     table: &mut [u32],
+    party: u32,
     id: u32,
     ticks: u32,
     routine: u32,
     user_data: u32,
 ) -> u32
-    ensures { λ r. ⌜ outcomeOf r (0 ∷ []) (now (table .exit)) [] ≡ outcome (now (table .entry)) (call.fireEvery id ticks routine user_data) ⌝ }
+    ensures { λ r. ⌜ outcomeOf r (0 ∷ []) (now (table .exit)) [] ≡ outcome (now (table .entry)) (call.fireEvery party id ticks routine user_data) ⌝ }
 {
-    status_of(starts::fire_every(table, id, ticks, routine, user_data))
+    status_of(starts::fire_every(table, party, id, ticks, routine, user_data))
 }
 
 #[no_mangle]
-pub extern "C" fn hc_reset(table: &mut [u32], id: u32) -> u32
-    ensures { λ r. ⌜ outcomeOf r (0 ∷ []) (now (table .exit)) [] ≡ outcome (now (table .entry)) (call.reset id) ⌝ }
+pub extern "C" fn hc_reset(table: &mut [u32], party: u32, id: u32) -> u32
+    ensures { λ r. ⌜ outcomeOf r (0 ∷ []) (now (table .exit)) [] ≡ outcome (now (table .entry)) (call.reset party id) ⌝ }
 {
-    status_of(starts::reset(table, id))
+    status_of(starts::reset(table, party, id))
 }
 
 #[no_mangle]
-pub extern "C" fn hc_ticks_left(table: &[u32], id: u32, ticks: &mut u32) -> u32
-    ensures { λ r. ⌜ outcomeOf r (now (ticks .exit) ∷ []) (now (table .entry)) [] ≡ outcome (now (table .entry)) (call.ticksLeft id) ⌝ }
+pub extern "C" fn hc_ticks_left(table: &[u32], party: u32, id: u32, ticks: &mut u32) -> u32
+    ensures { λ r. ⌜ outcomeOf r (now (ticks .exit) ∷ []) (now (table .entry)) [] ≡ outcome (now (table .entry)) (call.ticksLeft party id) ⌝ }
 {
-    let answer = timer::ticks_left(table, id);
+    let answer = timer::ticks_left(table, party, id);
     *ticks = number_in(answer);
     status_of(answer)
 }
@@ -199,35 +202,42 @@ pub extern "C" fn hc_initiate_server(table: &mut [u32]) -> u32
 #[no_mangle]
 pub extern "C" fn hc_server_fire_after(
     table: &mut [u32],
+    party: u32,
     id: u32,
     ticks: u32,
     routine: u32,
     user_data: u32,
 ) -> u32
-    ensures { λ r. ⌜ outcomeOf r (0 ∷ []) (now (table .exit)) [] ≡ outcome (now (table .entry)) (call.serverFireAfter id ticks routine user_data) ⌝ }
+    ensures { λ r. ⌜ outcomeOf r (0 ∷ []) (now (table .exit)) [] ≡ outcome (now (table .entry)) (call.serverFireAfter party id ticks routine user_data) ⌝ }
 {
-    status_of(server::server_fire_after(table, id, ticks, routine, user_data))
+    status_of(server::server_fire_after(table, party, id, ticks, routine, user_data))
 }
 
 #[no_mangle]
 pub extern "C" fn hc_server_fire_when(
     table: &mut [u32],
+    party: u32,
     id: u32,
     when: &[u32; 7],
     routine: u32,
     user_data: u32,
 ) -> u32
-    ensures { λ r. ⌜ outcomeOf r (0 ∷ []) (now (table .exit)) [] ≡ outcome (now (table .entry)) (call.serverFireWhen id (wallTime (now (when .entry))) routine user_data) ⌝ }
+    ensures { λ r. ⌜ outcomeOf r (0 ∷ []) (now (table .exit)) [] ≡ outcome (now (table .entry)) (call.serverFireWhen party id (wallTime (now (when .entry))) routine user_data) ⌝ }
 {
     let date = wall_time(when);
-    status_of(server::server_fire_when(table, id, date, routine, user_data))
+    status_of(server::server_fire_when(table, party, id, date, routine, user_data))
 }
 
 #[no_mangle]
-pub extern "C" fn hc_serve(table: &mut [u32], served: &mut [u32], count: &mut u32) -> u32
-    ensures { λ r. ⌜ outcomeOf r (now (count .exit) ∷ []) (now (table .exit)) (now (served .exit)) ≡ outcome (now (table .entry)) (call.serve (now (served .entry))) ⌝ }
+pub extern "C" fn hc_serve(
+    table: &mut [u32],
+    party: u32,
+    served: &mut [u32],
+    count: &mut u32,
+) -> u32
+    ensures { λ r. ⌜ outcomeOf r (now (count .exit) ∷ []) (now (table .exit)) (now (served .exit)) ≡ outcome (now (table .entry)) (call.serve party (now (served .entry))) ⌝ }
 {
-    let answer = server::serve(table, served);
+    let answer = server::serve(table, party, served);
     *count = number_in(answer);
     status_of(answer)
 }

@@ -15,9 +15,9 @@ use Rattle.model.specs.State.{Clock, withClock}
 use Rattle.model.specs.Directives.{mostLeap, clockAt, clockStep}
 use Rattle.model.specs.Words.{writtenOver, read, ticksPerSecond, clockSet, seconds, ticksInto}
 use Rattle.model.specs.Sound.{sound}
-use Rattle.model.proofs.ClockSteps.{clock-unset}
-use Rattle.model.proofs.SoundHolds.{Header, sound-header, sound-holds}
-use Rattle.model.proofs.ListLaws.{cases}
+use Rattle.laws.proofs.ClockSteps.{clock-unset}
+use Rattle.laws.proofs.SoundHolds.{Header, sound-header, sound-holds}
+use Rattle.laws.proofs.ListLaws.{cases}
 use Rattle.leaping.specs.Leaps.{clockOn}
 use Rattle.firing.proofs.ClockWords.{clock-moved}
 

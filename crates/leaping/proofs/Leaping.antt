@@ -11,12 +11,12 @@ use Rattle.model.specs.State.{State, listed}
 use Rattle.model.specs.Directives.{mostLeap, clockStep, ticked, Leapt, leapt}
 use Rattle.model.specs.Words.{read, writtenOver}
 use Rattle.model.specs.Outcome.{written}
-use Rattle.model.proofs.ListLaws.{all-map}
-use Rattle.model.proofs.WellFormed.{WellFormed, Holds}
-use Rattle.model.proofs.ReadBack.{slots-length, read-back, over-over, over-holds}
-use Rattle.model.proofs.SoundHolds.{sound-holds, sound-well-formed}
-use Rattle.model.proofs.HoldsSound.{well-formed-sound}
-use Rattle.model.proofs.KeptWellFormed.{tick-slots}
+use Rattle.laws.proofs.ListLaws.{all-map}
+use Rattle.laws.proofs.WellFormed.{WellFormed, Holds}
+use Rattle.laws.proofs.ReadBack.{slots-length, read-back, over-over, over-holds}
+use Rattle.laws.proofs.SoundHolds.{sound-holds, sound-well-formed}
+use Rattle.laws.proofs.HoldsSound.{well-formed-sound}
+use Rattle.laws.proofs.KeptWellFormed.{tick-slots}
 use Rattle.links.specs.Places.{lastSlot}
 use Rattle.firing.specs.Lists.{Leaves}
 use Rattle.firing.proofs.Ticks.{tickedTo}

@@ -14,11 +14,11 @@ use Rattle.model.specs.declared.Chain.the-variants.{ByTicks, ByDate, Queue}
 use Rattle.model.specs.Lists.{keep, All}
 use Rattle.model.specs.State.{Link, Clock, State, chainOf, withChain, withClock}
 use Rattle.model.specs.Directives.{firedAll, goOn, due, fire, nearer, closer, clockStep, tickedOnce, dueInTick, isQuiet, oneMore, leapt}
-use Rattle.model.proofs.ListLaws.{cases, all-map, all-mapped, all-zip, keep-all, keep-none}
-use Rattle.model.proofs.ClockSteps.{clock-unset, clock-isSet, clock-perSecond, clock-into, clock-last}
-use Rattle.model.proofs.WellFormed.{Chained, WellFormed}
-use Rattle.model.proofs.Steps.{chained-nearer, chained-with-clock}
-use Rattle.model.proofs.LeapLaws.{leapt-on, further}
+use Rattle.laws.proofs.ListLaws.{cases, all-map, all-mapped, all-zip, keep-all, keep-none}
+use Rattle.laws.proofs.ClockSteps.{clock-unset, clock-isSet, clock-perSecond, clock-into, clock-last}
+use Rattle.laws.proofs.WellFormed.{Chained, WellFormed}
+use Rattle.laws.proofs.Steps.{chained-nearer, chained-with-clock}
+use Rattle.laws.proofs.LeapLaws.{leapt-on, further}
 use Rattle.firing.specs.Nearer.{closerBy, nearerBy}
 use Rattle.leaping.specs.Leaps.{clockOn, skipped}
 use Rattle.leaping.proofs.ClockRuns.{step-inside, step-over, step-end, clock-stands}
@@ -95,6 +95,7 @@ module _ (m : ℕ) (s : State) (f : WellFormed s) (ticks : All (λ w. m < w .wai
   well-formed-skipped = record {
     chained = chained-skipped m s (f .chained);
     some-slot = f .some-slot;
+    parted = f .parted;
     per-low = omega (arith, same-rate, f .per-low);
     per-high = omega (arith, same-rate, f .per-high);
     into = on-keeps (λ d. d .ticksInto < d .perSecond) clock-into m (s .clock) (f .into);

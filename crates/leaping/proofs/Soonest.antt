@@ -14,9 +14,9 @@ use Rattle.model.specs.Lists.{All}
 use Rattle.model.specs.State.{State, withClock}
 use Rattle.model.specs.Words.{writtenOver, read, ticksPerSecond, seconds, ticksInto, firstTicking, firstDated, waitOf}
 use Rattle.model.specs.Sound.{sound}
-use Rattle.model.proofs.ReadBack.{slots-length, over-over}
-use Rattle.model.proofs.Steps.{chained-with-clock}
-use Rattle.model.proofs.SoundHolds.{sound-header, sound-holds, sound-well-formed}
+use Rattle.laws.proofs.ReadBack.{slots-length, over-over}
+use Rattle.laws.proofs.Steps.{chained-with-clock}
+use Rattle.laws.proofs.SoundHolds.{sound-header, sound-holds, sound-well-formed}
 use Rattle.links.proofs.NextState.{Next, next-start, next-read, next-holds, next-then}
 use Rattle.firing.specs.Nearer.{nearerBy, Nearable}
 use Rattle.firing.proofs.Heads.{Front, front, no-front}

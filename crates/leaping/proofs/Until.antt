@@ -14,11 +14,11 @@ use Rattle.model.specs.declared.Chain.the-variants.{ByTicks, ByDate}
 use Rattle.model.specs.Lists.{keep, All, Sorted}
 use Rattle.model.specs.State.{Link, Clock, State}
 use Rattle.model.specs.Directives.{due, fire, withoutServer, nearer, closer, clockStep, tickedOnce, dueInTick, isQuiet, leapt}
-use Rattle.model.proofs.ListLaws.{cases, all-map}
-use Rattle.model.proofs.KindLaws.{again-not-dated}
-use Rattle.model.proofs.WellFormed.{Chained, WellFormed}
-use Rattle.model.proofs.Steps.{fire-elsewhere, chained-nearer}
-use Rattle.model.proofs.LeapLaws.{leapt-on, leapt-stops, quiet-fired, further}
+use Rattle.laws.proofs.ListLaws.{cases, all-map}
+use Rattle.laws.proofs.KindLaws.{again-not-dated}
+use Rattle.laws.proofs.WellFormed.{Chained, WellFormed}
+use Rattle.laws.proofs.Steps.{fire-elsewhere, chained-nearer}
+use Rattle.laws.proofs.LeapLaws.{leapt-on, leapt-stops, quiet-fired, further}
 use Rattle.firing.specs.Nearer.{closerBy}
 use Rattle.leaping.specs.Leaps.{clockOn, skipped, untilTicks, untilDate, untilDue}
 use Rattle.leaping.proofs.ClockRuns.{clock-runs, clock-step-last}

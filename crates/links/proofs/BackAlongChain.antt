@@ -9,9 +9,9 @@ use Rattle.model.specs.declared.Chain.the-variants.{ByTicks}
 use Rattle.model.specs.Lists.{All}
 use Rattle.model.specs.State.{Slot, Link, slotAt, waitAt}
 use Rattle.model.specs.Words.{read, intervalOf, waitOf, previousOf}
-use Rattle.model.proofs.WellFormed.{timesIn, Holds}
-use Rattle.model.proofs.Chains.{once}
-use Rattle.model.proofs.StateWords.{holds-parts}
+use Rattle.laws.proofs.WellFormed.{timesIn, Holds}
+use Rattle.laws.proofs.Chains.{once}
+use Rattle.laws.proofs.StateWords.{holds-parts}
 use Rattle.links.proofs.LinkInMiddle.{last-slot, last-wait, split, all-mid, mid-stands, mid-own, last-low}
 use Rattle.links.proofs.Positions.{position, last-of}
 

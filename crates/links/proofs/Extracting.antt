@@ -15,12 +15,12 @@ use Rattle.model.specs.Kinds.{kindAt, sameChain, waitsIn}
 use Rattle.model.specs.State.{Slot, Link, State, chainOf, withChain, free, slotAt, putAt, without}
 use Rattle.model.specs.Directives.{stopped, idled}
 use Rattle.model.specs.Words.{first, difference, writtenOver, word, slotFrom, read, kindOf, nameOf, intervalOf, waitOf, routineOf, dataOf}
-use Rattle.model.proofs.WellFormed.{timesIn, Holds}
-use Rattle.model.proofs.Chains.{without-none}
-use Rattle.model.proofs.KindLaws.{each-chain, none-in, stopped-not-in, stays}
-use Rattle.model.proofs.StateWords.{holds-parts, Linked, holds-linked}
-use Rattle.model.proofs.ReadBack.{slots-length, slot-read}
-use Rattle.model.proofs.Steps.{same-state, with-chain-slots, with-chain-clock, with-chain-server, with-chain-own, with-chain-apart, stopped-chain, chained-stopped}
+use Rattle.laws.proofs.WellFormed.{timesIn, Holds}
+use Rattle.laws.proofs.Chains.{without-none}
+use Rattle.laws.proofs.KindLaws.{each-chain, none-in, stopped-not-in, stays}
+use Rattle.laws.proofs.StateWords.{holds-parts, Linked, holds-linked}
+use Rattle.laws.proofs.ReadBack.{slots-length, slot-read}
+use Rattle.laws.proofs.Steps.{same-state, with-chain-slots, with-chain-clock, with-chain-split, with-chain-server, with-chain-own, with-chain-apart, stopped-chain, chained-stopped}
 use Rattle.chains.specs.EditedWords.{fieldWord, relinked, waitWithout, extractedWords, Extractable}
 use Rattle.links.specs.Places.{lastSlot, lastWait, InTable}
 use Rattle.links.proofs.LinkInMiddle.{times-at, Split, split, all-mid, sorted-next, linked-back, mid-stands, mid-once, mid-apart, mid-within, mid-sorted, last-low}
@@ -42,7 +42,8 @@ stopped-as : (k : Chain) (s : State) (i : ℕ) (x : Slot) (c : List Link) → wi
     → withChain k s (putAt (s .slots) i x) c ≡ stopped s i x
 stopped-as k s i x c e n =
     let sl = putAt (s .slots) i x in
-    same-state (withChain k s sl c) (stopped s i x) (with-chain-slots s sl c k) (with-chain-clock s sl c k) (with-chain-server s sl c k)
+    same-state (withChain k s sl c) (stopped s i x) (with-chain-slots s sl c k) (with-chain-clock s sl c k) (with-chain-split s sl c k)
+    (with-chain-server s sl c k)
     (each-chain (λ m. chainOf m (withChain k s sl c) ≡ chainOf m (stopped s i x)) k
     (with-chain-own s sl c k ∙ sym e ∙ sym (stopped-chain s i x k))
     (λ m away. with-chain-apart s sl c k m away ∙ sym (without-none i (chainOf m s) (n m away)) ∙ sym (stopped-chain s i x m)))

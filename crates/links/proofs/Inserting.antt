@@ -16,12 +16,12 @@ use Rattle.model.specs.Kinds.{chainFor, waitingKind, intervalIn}
 use Rattle.model.specs.State.{Slot, Link, State, chainOf, withChain, slotAt, putAt}
 use Rattle.model.specs.Directives.{stopped, became, inserted, waitingAs, started}
 use Rattle.model.specs.Words.{first, difference, writtenOver, read, nameOf, waitOf}
-use Rattle.model.proofs.ListLaws.{cases, count-append}
-use Rattle.model.proofs.WellFormed.{timesIn, Chained, Holds}
-use Rattle.model.proofs.Chains.{without-none, once, once-apart, met-in-range}
-use Rattle.model.proofs.StateWords.{holds-parts, Linked}
-use Rattle.model.proofs.KindLaws.{each-chain}
-use Rattle.model.proofs.Steps.{same-state, with-chain-slots, with-chain-clock, with-chain-server, with-chain-own, with-chain-apart, stopped-chain, chained-started}
+use Rattle.laws.proofs.ListLaws.{cases, count-append}
+use Rattle.laws.proofs.WellFormed.{timesIn, Chained, Holds}
+use Rattle.laws.proofs.Chains.{without-none, once, once-apart, met-in-range}
+use Rattle.laws.proofs.StateWords.{holds-parts, Linked}
+use Rattle.laws.proofs.KindLaws.{each-chain}
+use Rattle.laws.proofs.Steps.{same-state, with-chain-slots, with-chain-clock, with-chain-split, with-chain-server, with-chain-own, with-chain-apart, stopped-chain, chained-started}
 use Rattle.chains.specs.EditedWords.{fieldWord, relinked, waitBehind, insertedWords, Insertable}
 use Rattle.links.specs.Places.{upTo, beyond, lastSlot, lastWait, At, IdleInTable}
 use Rattle.links.specs.TimerWords.{timerPut}
@@ -71,6 +71,7 @@ started-as k s i n x c none e =
     same-state (withChain k s sl c) (inserted k o i n)
     (with-chain-slots s sl c k ∙ sym (with-chain-slots o sl c′ k))
     (with-chain-clock s sl c k ∙ sym (with-chain-clock o sl c′ k))
+    (with-chain-split s sl c k ∙ sym (with-chain-split o sl c′ k))
     (with-chain-server s sl c k ∙ sym (with-chain-server o sl c′ k))
     (each-chain (λ m. chainOf m (withChain k s sl c) ≡ chainOf m (inserted k o i n)) k
     (with-chain-own s sl c k ∙ sym e ∙ ap goes (stays k) ∙ sym (with-chain-own o sl c′ k))

@@ -12,10 +12,10 @@ use Rattle.model.specs.Lists.{All, Sorted}
 use Rattle.model.specs.Kinds.{sameChain}
 use Rattle.model.specs.State.{Link, State, chainOf, without}
 use Rattle.model.specs.Words.{first}
-use Rattle.model.proofs.ListLaws.{cases, count-append}
-use Rattle.model.proofs.WellFormed.{timesIn, Holds}
-use Rattle.model.proofs.Chains.{without-none, once, once-apart, met-in-range}
-use Rattle.model.proofs.StateWords.{Stands, Linked, holds-linked}
+use Rattle.laws.proofs.ListLaws.{cases, count-append}
+use Rattle.laws.proofs.WellFormed.{timesIn, Holds}
+use Rattle.laws.proofs.Chains.{without-none, once, once-apart, met-in-range}
+use Rattle.laws.proofs.StateWords.{Stands, Linked, holds-linked}
 use Rattle.links.specs.Places.{lastSlot, lastWait}
 
 -- ---- the last link of the front

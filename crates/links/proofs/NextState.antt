@@ -6,8 +6,8 @@ use mathlib.Core.List.{List}
 use lib.ListN.{length}
 use Rattle.model.specs.State.{State}
 use Rattle.model.specs.Words.{read, writtenOver}
-use Rattle.model.proofs.WellFormed.{Chained, Holds}
-use Rattle.model.proofs.ReadBack.{read-back, over-over, over-holds}
+use Rattle.laws.proofs.WellFormed.{Chained, Holds}
+use Rattle.laws.proofs.ReadBack.{read-back, over-over, over-holds}
 
 -- the words u are those of s written over t
 pub record Next (t : List ℕ) (s : State) (u : List ℕ) : Type 0 where

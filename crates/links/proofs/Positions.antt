@@ -8,10 +8,10 @@ use lib.Dec.{ltb, eqb}
 use borrow.Author.Tests.{ltb-true, ltb-false, eq-eqb}
 use Rattle.model.specs.declared.Chain.{Chain}
 use Rattle.model.specs.State.{Link, State, chainOf, waitAt}
-use Rattle.model.proofs.ListLaws.{cases}
-use Rattle.model.proofs.WellFormed.{timesIn, Chained}
-use Rattle.model.proofs.Chains.{times-own, once, met-in-range}
-use Rattle.model.proofs.StateWords.{absent}
+use Rattle.laws.proofs.ListLaws.{cases}
+use Rattle.laws.proofs.WellFormed.{timesIn, Chained}
+use Rattle.laws.proofs.Chains.{times-own, once, met-in-range}
+use Rattle.laws.proofs.StateWords.{absent}
 use Rattle.links.specs.Places.{lastSlot, lastWait}
 use Rattle.links.proofs.LinkInMiddle.{times-more}
 

@@ -15,14 +15,14 @@ use Rattle.model.specs.declared.Chain.the-variants.{ByTicks, ByDate, Queue}
 use Rattle.model.specs.Kinds.{sameChain}
 use Rattle.model.specs.State.{Link, Clock, State, chainOf, withChain, putAt}
 use Rattle.model.specs.Words.{first, difference, write, writtenOver, word, field, headWord, slotFrom, ticksInto}
-use Rattle.model.proofs.ListLaws.{cases, clash, count-append}
-use Rattle.model.proofs.EachPlace.{end, _&_, each-at}
-use Rattle.model.proofs.Slots.{at-same, at-other, length-put}
-use Rattle.model.proofs.WellFormed.{timesIn, Chained, Holds}
-use Rattle.model.proofs.Chains.{times-own, met-in-range}
-use Rattle.model.proofs.KindLaws.{each-chain}
-use Rattle.model.proofs.StateWords.{headWords, linkWord, link-field, Lay, Loose, Parts, holds-parts, parts-holds, Linked, linked-lay, holds-linked}
-use Rattle.model.proofs.Steps.{with-chain-slots, with-chain-clock, with-chain-server, with-chain-own, with-chain-apart, with-chain-each}
+use Rattle.laws.proofs.ListLaws.{cases, clash, count-append}
+use Rattle.laws.proofs.EachPlace.{end, _&_, each-at}
+use Rattle.laws.proofs.Slots.{at-same, at-other, length-put}
+use Rattle.laws.proofs.WellFormed.{timesIn, Chained, Holds}
+use Rattle.laws.proofs.Chains.{times-own, met-in-range}
+use Rattle.laws.proofs.KindLaws.{each-chain}
+use Rattle.laws.proofs.StateWords.{headWords, linkWord, link-field, Lay, Loose, Parts, holds-parts, parts-holds, Linked, linked-lay, holds-linked}
+use Rattle.laws.proofs.Steps.{with-chain-slots, with-chain-clock, with-chain-split, with-chain-server, with-chain-own, with-chain-apart, with-chain-each}
 use Rattle.links.specs.Places.{lastSlot, lastWait}
 use Rattle.links.proofs.LinkInMiddle.{times-more, times-mid, times-at}
 use Rattle.chains.proofs.EditedWords.{head-low, Edit, slotOf, own-slot, kept, kept-link, kept-head, kept-rest}
@@ -168,9 +168,9 @@ module _ {k : Chain} {t u : List ℕ} {p l n q v i : ℕ} {ws : List ℕ} (edit 
 
 -- ---- the state after the edit
 
-same-heads : (s s′ : State) → length (s .slots) ≡ length (s′ .slots) → s .clock ≡ s′ .clock → s .server ≡ s′ .server
+same-heads : (s s′ : State) → length (s .slots) ≡ length (s′ .slots) → s .clock ≡ s′ .clock → s .split ≡ s′ .split → s .server ≡ s′ .server
     → (m : ℕ) → m < 10 → m ≢ 5 → m ≢ 6 → m ≢ 9 → getD (headWords s) m 0 ≡ getD (headWords s′) m 0
-same-heads s s′ e c v = each-at (λ m n. m ≢ 5 → m ≢ 6 → m ≢ 9 → n ≡ getD (headWords s′) m 0) 0 (headWords s) (
+same-heads s s′ e c l v = each-at (λ m n. m ≢ 5 → m ≢ 6 → m ≢ 9 → n ≡ getD (headWords s′) m 0) 0 (headWords s) (
     (λ _ _ _. e)
     & (λ _ _ _. ap (λ (x : Clock). x .perSecond) c)
     & (λ _ _ _. ap (λ (x : Clock). cond (x .isSet) 1 0) c)
@@ -178,7 +178,7 @@ same-heads s s′ e c v = each-at (λ m n. m ≢ 5 → m ≢ 6 → m ≢ 9 → n
     & (λ _ _ _. ap (λ (x : Clock). x .ticksInto) c)
     & (λ a _ _. absurd (a refl))
     & (λ _ b _. absurd (b refl))
-    & (λ _ _ _. refl)
+    & (λ _ _ _. l)
     & (λ _ _ _. ap {B = ℕ} (λ (b : Bool). cond b 1 0) v)
     & (λ _ _ d. absurd (d refl))
     & end)
@@ -266,7 +266,8 @@ module _ {k : Chain} {t u : List ℕ} {s : State} {xs : List Link} {e : Link} {y
         ap length (with-chain-slots s slots c k) ∙ length-put (s .slots) (e .slot) (slotOf ws) in
         record {
           heads = λ m p f g i. kept-head edit m p (not-head k m f g i) ∙ before .heads m p f g i
-              ∙ same-heads s (withChain k s slots c) (sym size) (sym (with-chain-clock s slots c k)) (sym (with-chain-server s slots c k)) m p f g i;
+              ∙ same-heads s (withChain k s slots c) (sym size) (sym (with-chain-clock s slots c k)) (sym (with-chain-split s slots c k))
+              (sym (with-chain-server s slots c k)) m p f g i;
           lay = with-chain-each s slots c (λ m l. Lay m u l) k (linked-lay k u c (led .link) (led .linked)) other-lay;
           loose = λ j p b z. cases (eqb j (e .slot))
               (λ f.

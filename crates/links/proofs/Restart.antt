@@ -11,12 +11,12 @@ use Rattle.model.specs.Kinds.{kindAt, chainFor, waitsIn, linked}
 use Rattle.model.specs.State.{Slot, Link, State, slotAt, without}
 use Rattle.model.specs.Directives.{stopped, idled, inserted, waitingAs, started}
 use Rattle.model.specs.Words.{writtenOver, read, kindOf}
-use Rattle.model.proofs.Slots.{at-same, put-put}
-use Rattle.model.proofs.Chains.{times-without, without-none}
-use Rattle.model.proofs.KindLaws.{in-none, stopped-not-in}
-use Rattle.model.proofs.StateWords.{holds-parts}
-use Rattle.model.proofs.ReadBack.{count-is, over-over}
-use Rattle.model.proofs.Steps.{length-stopped, chained-stopped, length-started}
+use Rattle.laws.proofs.Slots.{at-same, put-put}
+use Rattle.laws.proofs.Chains.{times-without, without-none}
+use Rattle.laws.proofs.KindLaws.{in-none, stopped-not-in}
+use Rattle.laws.proofs.StateWords.{holds-parts}
+use Rattle.laws.proofs.ReadBack.{count-is, over-over}
+use Rattle.laws.proofs.Steps.{length-stopped, chained-stopped, length-started}
 use Rattle.links.specs.Places.{InTable, IdleInTable}
 use Rattle.links.proofs.Extracting.{in-slots, kind-is, stop-idle}
 use Rattle.links.proofs.NextState.{Next, next-start, next-read, next-holds, next-then}
@@ -29,6 +29,7 @@ stopped-twice s i x y =
       clock = s .clock;
       ticking = once (s .ticking) d;
       dated = once (s .dated) d;
+      split = s .split;
       server = s .server;
       queue = once (s .queue) d;
     }

@@ -10,8 +10,8 @@ use lib.Dec.{leb, ltb, eqb}
 use borrow.Author.Tests.{eqb-true, eq-eqb, ne-eqb, ltb-true, ltb-false, le-leb, lt-leb}
 use Rattle.model.specs.declared.Chain.the-variants.{ByTicks, ByDate, Queue}
 use Rattle.model.specs.Kinds.{kindEntry, kinds, kindAt, waitsIn, isSome, linked}
-use Rattle.model.proofs.ListLaws.{cases}
-use Rattle.model.proofs.KindLaws.{readAll, on-kinds, on-numbers, stays}
+use Rattle.laws.proofs.ListLaws.{cases}
+use Rattle.laws.proofs.KindLaws.{readAll, on-kinds, on-numbers, stays}
 
 -- a timer that is linked stops as another kind
 pub same-stops : (n : ℕ) → kindAt n .whenStopped ≡ n → linked n ≡ false

@@ -9,8 +9,8 @@ use lib.ListN.{length, set, drop, length-set}
 use Rattle.model.specs.State.{Slot, Clock, State}
 use Rattle.model.specs.Directives.{stored}
 use Rattle.model.specs.Words.{slotWords, allSlots, writtenOver, read}
-use Rattle.model.proofs.StateWords.{headWords}
-use Rattle.model.proofs.ReadBack.{slots-length}
+use Rattle.laws.proofs.StateWords.{headWords}
+use Rattle.laws.proofs.ReadBack.{slots-length}
 use Rattle.chains.specs.EditedWords.{fieldWord}
 use Rattle.links.specs.Places.{InTable}
 use Rattle.links.specs.TimerWords.{timerPut}
@@ -22,7 +22,8 @@ spelt l m x =
 
 -- the words of slots come from them and the chains, whatever else the state has
 pub same-slots : (s : State) (slots : List Slot) (clock : Clock) (server : Bool) (b : ℕ) (xs : List Slot) (rest : List ℕ)
-    → allSlots (record { slots = slots; clock = clock; ticking = s .ticking; dated = s .dated; server = server; queue = s .queue }) b xs rest ≡ allSlots s b xs rest
+    → allSlots (record { slots = slots; clock = clock; ticking = s .ticking; dated = s .dated; split = s .split; server = server; queue = s .queue }) b xs rest
+    ≡ allSlots s b xs rest
 same-slots s slots clock server b [] rest = refl
 same-slots s slots clock server b (x ∷ xs) rest = ap (slotWords s b x) (same-slots s slots clock server (suc b) xs rest)
 

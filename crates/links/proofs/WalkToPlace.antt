@@ -12,10 +12,10 @@ use Rattle.model.specs.declared.Chain.the-variants.{ByTicks, ByDate, Queue}
 use Rattle.model.specs.Lists.{All, Sorted}
 use Rattle.model.specs.State.{Link, chainOf, waitAt}
 use Rattle.model.specs.Words.{first, difference, accumulated, word, read, waitOf, nextOf}
-use Rattle.model.proofs.ListLaws.{all-map, all-append}
-use Rattle.model.proofs.WellFormed.{Holds}
-use Rattle.model.proofs.Chains.{once, met-in-range}
-use Rattle.model.proofs.StateWords.{linkWord, link-field, Stands, holds-parts, difference-total}
+use Rattle.laws.proofs.ListLaws.{all-map, all-append}
+use Rattle.laws.proofs.WellFormed.{Holds}
+use Rattle.laws.proofs.Chains.{once, met-in-range}
+use Rattle.laws.proofs.StateWords.{linkWord, link-field, Stands, holds-parts, difference-total}
 use Rattle.links.specs.Places.{At, From, upTo, lastSlot, lastWait}
 use Rattle.links.proofs.LinkInMiddle.{last-slot, last-wait, Split, split, all-mid, mid-stands, mid-own, mid-sorted, last-low}
 use Rattle.links.proofs.Positions.{position, last-of}

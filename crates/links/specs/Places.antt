@@ -9,7 +9,7 @@ use Rattle.model.specs.declared.Chain.the-variants.{ByTicks}
 use Rattle.model.specs.Kinds.{kindAt, waitsIn}
 use Rattle.model.specs.State.{Link, State, chainOf, waitAt}
 use Rattle.model.specs.Words.{word, read, difference, accumulated, slotCount, kindOf, waitOf, previousOf}
-use Rattle.model.proofs.WellFormed.{timesIn, Holds}
+use Rattle.laws.proofs.WellFormed.{timesIn, Holds}
 
 -- the first links of a chain, whose wait is not above n, and the others
 abbrev pub upTo : ℕ → List Link → List Link

@@ -8,7 +8,7 @@ ghost use Rattle.model.specs.Kinds.{kindAt, chainFor, waitingKind, intervalIn, 
 ghost use Rattle.model.specs.State.{chainOf, slotAt, waitAt};
 ghost use Rattle.model.specs.Directives.{stored, stopped, idled, started};
 ghost use Rattle.model.specs.Words.{difference, accumulated, read, writtenOver, waitOf, nextOf};
-ghost use Rattle.model.proofs.WellFormed.{Holds, timesIn};
+ghost use Rattle.laws.proofs.WellFormed.{Holds, timesIn};
 ghost use Rattle.links.specs.Places.{At, InTable, Stops, FirstStops, IdleInTable, From};
 ghost use Rattle.links.specs.TimerWords.{timerPut};
 use chains::extract;

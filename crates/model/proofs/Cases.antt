@@ -10,8 +10,7 @@ use Rattle.calendar.specs.declared.Instant.the-variants.{Second, NotValid}
 use Rattle.calendar.specs.Calendar.{monthsOf, years, valid, secondsOf, instantOf}
 use Rattle.model.specs.Calls.{Call, layOut, create, cancel, fireAfter, fireWhen, reset, ticksLeft, tick, setClock}
 use Rattle.model.specs.Sound.{headerSound, slotSound, chainSound, ticksSound, datesSound, queueSound, sound}
-use Rattle.model.specs.Outcome.{statusOn, outcome}
-use Rattle.model.specs.Demand.{after}
+use Rattle.model.specs.Outcome.{statusOn, outcome, after}
 
 -- A date and what it is in seconds; or calls on a slice, each with the status and the answer that it gives and the list that it leaves, and the
 -- words that they all leave.
@@ -46,14 +45,14 @@ nine = replicate 9 99
 
 -- the session's start: N 3, T 10, two timers started for 5 ticks
 abbrev pub opening : List Call
-opening = layOut 3 10 ∷ create 1 ∷ create 2 ∷ fireAfter 0x12010001 5 7 70 ∷ fireAfter 0x12010002 5 8 80 ∷ []
+opening = layOut 3 10 0 ∷ create 1 1 ∷ create 1 2 ∷ fireAfter 1 0x12010001 5 7 70 ∷ fireAfter 1 0x12010002 5 8 80 ∷ []
 
 abbrev pub openingLines : List (List ℕ)
 openingLines = (0 ∷ 0 ∷ []) ∷ (0 ∷ 302055425 ∷ []) ∷ (0 ∷ 302055426 ∷ []) ∷ (0 ∷ 0 ∷ []) ∷ (0 ∷ 0 ∷ []) ∷ []
 
 -- one slot, with the clock set
 abbrev pub clocked : List Call
-clocked = layOut 1 10 ∷ setClock (date 2000 1 1 0 0 0) nine ∷ create 1 ∷ []
+clocked = layOut 1 10 0 ∷ setClock (date 2000 1 1 0 0 0) nine ∷ create 1 1 ∷ []
 
 abbrev pub clockedLines : List (List ℕ)
 clockedLines = (0 ∷ 0 ∷ []) ∷ (0 ∷ 0 ∷ []) ∷ (0 ∷ 302055425 ∷ []) ∷ []
@@ -83,24 +82,24 @@ starredCases =
     ∷ 2 ∷ 2 ∷ 5 ∷ 0 ∷ 8 ∷ 80 ∷ 0 ∷ 0
     ∷ replicate 8 0)
     -- Ticks 1 fires at the very next tick.
-    ∷ calls (replicate 18 0) (layOut 1 10 ∷ create 1 ∷ fireAfter 0x12010001 1 7 70 ∷ tick nine ∷ [])
+    ∷ calls (replicate 18 0) (layOut 1 10 0 ∷ create 1 1 ∷ fireAfter 1 0x12010001 1 7 70 ∷ tick nine ∷ [])
     ((0 ∷ 0 ∷ []) ∷ (0 ∷ 302055425 ∷ []) ∷ (0 ∷ 0 ∷ []) ∷ (0 ∷ 1 ∷ []) ∷ [])
     (unlent 3 ++ ((0x12010001 ∷ 7 ∷ 70 ∷ replicate 6 99) ∷ []))
     (1 ∷ 10 ∷ 0 ∷ 0 ∷ 0 ∷ 0 ∷ 0 ∷ 0 ∷ 0 ∷ 0 ∷ 2 ∷ 1 ∷ 1 ∷ 0 ∷ 7 ∷ 70 ∷ 0 ∷ 0 ∷ [])
     -- Fire when at the present second: 20; one second later: accepted.
-    ∷ calls (replicate 18 0) (clocked ++ (fireWhen 0x12010001 (date 2000 1 1 0 0 0) 7 70 ∷ fireWhen 0x12010001 (date 2000 1 1 0 0 1) 7 70 ∷ []))
+    ∷ calls (replicate 18 0) (clocked ++ (fireWhen 1 0x12010001 (date 2000 1 1 0 0 0) 7 70 ∷ fireWhen 1 0x12010001 (date 2000 1 1 0 0 1) 7 70 ∷ []))
     (clockedLines ++ ((20 ∷ 0 ∷ []) ∷ (0 ∷ 0 ∷ []) ∷ []))
     ([] ∷ nine ∷ unlent 3)
     (1 ∷ 10 ∷ 1 ∷ 378691200 ∷ 0 ∷ 0 ∷ 1 ∷ 0 ∷ 0 ∷ 0 ∷ 5 ∷ 1 ∷ 0 ∷ 378691201 ∷ 7 ∷ 70 ∷ 0 ∷ 0 ∷ [])
     -- Reset after cancel starts again.
     ∷ calls (replicate 18 0)
-    (layOut 1 10 ∷ create 1 ∷ fireAfter 0x12010001 5 7 70 ∷ tick nine ∷ ticksLeft 0x12010001 ∷ cancel 0x12010001 ∷ ticksLeft 0x12010001
-    ∷ reset 0x12010001 ∷ ticksLeft 0x12010001 ∷ [])
+    (layOut 1 10 0 ∷ create 1 1 ∷ fireAfter 1 0x12010001 5 7 70 ∷ tick nine ∷ ticksLeft 1 0x12010001 ∷ cancel 1 0x12010001 ∷ ticksLeft 1 0x12010001
+    ∷ reset 1 0x12010001 ∷ ticksLeft 1 0x12010001 ∷ [])
     ((0 ∷ 0 ∷ []) ∷ (0 ∷ 302055425 ∷ []) ∷ (0 ∷ 0 ∷ []) ∷ (0 ∷ 0 ∷ []) ∷ (0 ∷ 4 ∷ []) ∷ (0 ∷ 0 ∷ []) ∷ (0 ∷ 0 ∷ []) ∷ (0 ∷ 0 ∷ []) ∷ (0 ∷ 5 ∷ []) ∷ [])
     (unlent 3 ++ (nine ∷ unlent 5))
     (1 ∷ 10 ∷ 0 ∷ 0 ∷ 0 ∷ 1 ∷ 0 ∷ 0 ∷ 0 ∷ 0 ∷ 4 ∷ 1 ∷ 5 ∷ 5 ∷ 7 ∷ 70 ∷ 0 ∷ 0 ∷ [])
     -- Reset of a timer never started: 11.
-    ∷ calls (replicate 18 0) (layOut 1 10 ∷ create 1 ∷ reset 0x12010001 ∷ [])
+    ∷ calls (replicate 18 0) (layOut 1 10 0 ∷ create 1 1 ∷ reset 1 0x12010001 ∷ [])
     ((0 ∷ 0 ∷ []) ∷ (0 ∷ 302055425 ∷ []) ∷ (11 ∷ 0 ∷ []) ∷ [])
     (unlent 3)
     (1 ∷ 10 ∷ 0 ∷ 0 ∷ 0 ∷ 0 ∷ 0 ∷ 0 ∷ 0 ∷ 0 ∷ 1 ∷ 1 ∷ replicate 6 0)

@@ -10,13 +10,12 @@ use Rattle.calendar.specs.declared.WallTime.{WallTime}
 use Rattle.calendar.specs.Calendar.{monthsOf, years, valid, secondsOf, dateOf}
 use Rattle.model.specs.Lists.{keep, every}
 use Rattle.model.specs.Status.{when, firstOf, NotSound}
-use Rattle.model.specs.Calls.{Call, create, ident, cancel, delete, fireAfter, fireWhen, fireEvery, reset, ticksLeft, tick, setClock, getClock, nextDue, initiateServer, serverFireAfter, serverFireWhen, serve, leap}
+use Rattle.model.specs.Calls.{Call, create, ident, cancel, delete, fireAfter, fireWhen, fireEvery, reset, ticksLeft, tick, setClock, getClock, initiateServer, serverFireAfter, serverFireWhen, serve, leap}
 use Rattle.model.specs.State.{idBase}
 use Rattle.model.specs.Words.{kindOf, read}
 use Rattle.model.specs.Directives.{refusals}
 use Rattle.model.specs.Sound.{headerSound, slotSound, chainSound, ticksSound, datesSound, queueSound, sound}
-use Rattle.model.specs.Outcome.{Outcome, outcomeOf, statusOn, refused, accepted, outcome}
-use Rattle.model.specs.Demand.{after}
+use Rattle.model.specs.Outcome.{Outcome, outcomeOf, statusOn, refused, accepted, outcome, after}
 use Rattle.model.proofs.Cases.{date}
 
 -- Slot k is of kind k, and slot 14 is free. It is 2000-01-01 00:00:01 and 3 ticks. In the interval chain are 10, 6 and 4, with 1, 1 and 2 ticks left;
@@ -79,9 +78,9 @@ accepts kind = named (replicate 13 0) ∷ replicate 16 0 ∷ replicate 13 kind �
 
 abbrev pub idCalls : List (ℕ → Call)
 idCalls =
-    cancel ∷ delete ∷ reset ∷ ticksLeft
-    ∷ (λ id. fireAfter id 2 7 70) ∷ (λ id. fireWhen id (at 9) 7 70) ∷ (λ id. fireEvery id 2 7 70)
-    ∷ (λ id. serverFireAfter id 2 7 70) ∷ (λ id. serverFireWhen id (at 9) 7 70) ∷ []
+    cancel 1 ∷ delete 1 ∷ reset 1 ∷ ticksLeft 1
+    ∷ (λ id. fireAfter 1 id 2 7 70) ∷ (λ id. fireWhen 1 id (at 9) 7 70) ∷ (λ id. fireEvery 1 id 2 7 70)
+    ∷ (λ id. serverFireAfter 1 id 2 7 70) ∷ (λ id. serverFireWhen 1 id (at 9) 7 70) ∷ []
 
 abbrev pub idResults : List (List (List ℕ))
 idResults =
@@ -123,9 +122,9 @@ tickedTable =
 
 abbrev pub otherCalls : List Call
 otherCalls =
-    create 0 ∷ create 7 ∷ ident 0 ∷ ident 7 ∷ ident 12 ∷ ident 14
+    create 1 0 ∷ create 1 7 ∷ ident 1 0 ∷ ident 1 7 ∷ ident 1 12 ∷ ident 1 14
     ∷ tick (list 41) ∷ tick (list 42) ∷ setClock (at 60) (list 41) ∷ setClock (at 60) (list 42) ∷ setClock (at 10) (list 42) ∷ getClock
-    ∷ initiateServer ∷ serve (list 2) ∷ serve (list 3)
+    ∷ initiateServer ∷ serve 1 (list 2) ∷ serve 1 (list 3)
     ∷ leap 4294967295 (list 41) ∷ leap 4294967295 (list 42) ∷ leap 0 (list 41) ∷ leap 0 (list 42) ∷ leap 1 (list 42) ∷ leap 9 (list 43) ∷ []
 
 -- a call that leaves table and list as they are
@@ -229,12 +228,12 @@ changedWords =
     ∷ ((5, 6) ∷ (40, 10) ∷ (53, 1) ∷ (57, 0) ∷ (85, 3) ∷ (88, 0) ∷ (89, 4) ∷ []) ∷ [] ∷ ((40, 12) ∷ (98, 10) ∷ (101, 3) ∷ (105, 4) ∷ (112, 0) ∷ []) ∷ [] ∷ [])
     ∷ []
 
-changes-if-sound : map (changesAt (outcomeIf true)) (cancel ∷ reset ∷ []) ≡ changedWords
+changes-if-sound : map (changesAt (outcomeIf true)) (cancel 1 ∷ reset 1 ∷ []) ≡ changedWords
 changes-if-sound = refl
 
-pub cancel-and-reset : map (changesAt (outcome everyKind)) (cancel ∷ reset ∷ []) ≡ changedWords
+pub cancel-and-reset : map (changesAt (outcome everyKind)) (cancel 1 ∷ reset 1 ∷ []) ≡ changedWords
 unfolding statusOn outcome
-cancel-and-reset = subst (λ (b : Bool). map (changesAt (outcomeIf b)) (cancel ∷ reset ∷ []) ≡ changedWords) (sym is-sound) changes-if-sound
+cancel-and-reset = subst (λ (b : Bool). map (changesAt (outcomeIf b)) (cancel 1 ∷ reset 1 ∷ []) ≡ changedWords) (sym is-sound) changes-if-sound
 
 others-if-sound : map (outcomeIf true) otherCalls ≡ otherOutcomes
 unfolding monthsOf years valid secondsOf dateOf
@@ -246,8 +245,9 @@ with-every-kind = subst (λ (b : Bool). map (outcomeIf b) otherCalls ≡ otherOu
 
 -- Each start of a waiting or queued timer takes it off its chain: one after the other, in another chain or mode than before.
 pub all-started : after everyKind
-    (serverFireWhen (idBase + 4) (at 9) 7 70 ∷ serverFireAfter (idBase + 5) 4 7 70 ∷ serverFireAfter (idBase + 6) 4 7 70 ∷ fireWhen (idBase + 10) (at 9) 7 70
-    ∷ fireEvery (idBase + 11) 4 7 70 ∷ fireAfter (idBase + 12) 4 7 70 ∷ serverFireWhen (idBase + 13) (at 10) 7 70 ∷ [])
+    (serverFireWhen 1 (idBase + 4) (at 9) 7 70 ∷ serverFireAfter 1 (idBase + 5) 4 7 70 ∷ serverFireAfter 1 (idBase + 6) 4 7 70
+    ∷ fireWhen 1 (idBase + 10) (at 9) 7 70
+    ∷ fireEvery 1 (idBase + 11) 4 7 70 ∷ fireAfter 1 (idBase + 12) 4 7 70 ∷ serverFireWhen 1 (idBase + 13) (at 10) 7 70 ∷ [])
     ≡ 14 ∷ 10 ∷ 1 ∷ 378691201 ∷ 3 ∷ 5 ∷ 4 ∷ 0 ∷ 1 ∷ 0
     ∷ 1 ∷ 1 ∷ 0 ∷ 0 ∷ 0 ∷ 0 ∷ 0 ∷ 0
     ∷ 2 ∷ 2 ∷ 5 ∷ 0 ∷ 22 ∷ 20 ∷ 0 ∷ 0
@@ -274,8 +274,8 @@ changed i f v = set everyKind (2 + 8 * i + f) v
 
 abbrev pub damages : List (List ℕ)
 damages =
-    -- Word 7 is not zero. Word 8 is 0 where there are kinds from 8 on; or neither 0 nor 1. Word 9 is 0, or names a waiting, an idle or a free slot.
-    set everyKind 7 1 ∷ set everyKind 8 0 ∷ set everyKind 8 2 ∷ map (set everyKind 9) (0 ∷ 10 ∷ 8 ∷ 14 ∷ [])
+    -- Word 7 is N. Word 8 is 0 where there are kinds from 8 on; or neither 0 nor 1. Word 9 is 0, or names a waiting, an idle or a free slot.
+    set everyKind 7 14 ∷ set everyKind 8 0 ∷ set everyKind 8 2 ∷ map (set everyKind 9) (0 ∷ 10 ∷ 8 ∷ 14 ∷ [])
     -- Kind 14. No name; no routine. No interval by interval, and one by date.
     ++ map (λ i. changed i 0 14) (8 ∷ 12 ∷ 14 ∷ []) ++ map (λ i. changed i 1 0) (from 8 6) ++ map (λ i. changed i 4 0) (from 8 6)
     ++ map (λ i. changed i 2 0) (8 ∷ 10 ∷ 12 ∷ []) ++ map (λ i. changed i 2 1) (9 ∷ 11 ∷ 13 ∷ [])
@@ -292,9 +292,11 @@ pub damaged : every (λ t. not (sound t)) damages ≡ true
 unfolding headerSound slotSound chainSound ticksSound datesSound queueSound sound
 damaged = refl
 
--- The other side: it is sound with an interval of 1, or of its ticks left; with another name, routine or data; with the last second.
+-- The other side: it is sound with L from 1 to N - 1; with an interval of 1, or of its ticks left; with another name, routine or data; with the last
+-- second.
 pub undamaged : every sound
-    (changed 8 2 1 ∷ changed 12 2 1 ∷ changed 10 2 1 ∷ changed 12 1 1 ∷ changed 13 4 1 ∷ changed 13 5 0 ∷ changed 11 3 378691202 ∷ changed 5 3 3534451199 ∷ [])
+    (set everyKind 7 1 ∷ set everyKind 7 13 ∷ changed 8 2 1 ∷ changed 12 2 1 ∷ changed 10 2 1 ∷ changed 12 1 1 ∷ changed 13 4 1 ∷ changed 13 5 0
+    ∷ changed 11 3 378691202 ∷ changed 5 3 3534451199 ∷ [])
     ≡ true
 unfolding headerSound slotSound chainSound ticksSound datesSound queueSound sound
 undamaged = refl

@@ -1,51 +1,11 @@
--- The proofs, in reading order: laws of lists, slots and chains; the words of a table and its soundness; what each call keeps; what a list of
--- calls means; next due's rules and what it answers; demand 3 and its readings; the worked cases.
-pub mod ListLaws
-pub mod StatusLaws
-pub mod Order
-pub mod EachPlace
-pub mod KindLaws
-pub mod WellFormed
-pub mod Slots
-pub mod Chains
-pub mod StateWords
-pub mod ReadBack
-pub mod Shapes
-pub mod SoundHolds
-pub mod HoldsSound
-pub mod ClockSteps
-pub mod FiredSlots
-pub mod Searches
-pub mod GoingOn
-pub mod Steps
-pub mod AcceptedCalls
-pub mod LeapLaws
-pub mod KeptWellFormed
-pub mod HistoryLaws
-pub mod ChainLaws
-pub mod QueueLaws
-pub mod ClockLaws
-pub mod Simulation
-pub mod ClockSimulation
-pub mod Agreement
-pub mod OutcomeLaws
-pub mod SingleCalls
-pub mod ClockReadings
-pub mod CallTables
-pub mod Lasting
-pub mod NextDueRules
-pub mod NextDue
-pub mod ListWords
-pub mod LeapWords
-pub mod Demand3
-pub mod Readings
-pub mod CallReadings
-pub mod QueueReadings
-pub mod LeapReadings
+-- Cases that are computed from the definitions: the starred ones, worked ones, every call on every kind, parties, next due's rules; the clock, the
+-- server, leap and next due.
 pub mod Cases
 pub mod WorkedCases
+pub mod EveryKind
+pub mod PartyCases
+pub mod NextDueRules
 pub mod ClockCases
 pub mod ServerCases
 pub mod LeapCases
-pub mod EveryKind
 pub mod NextDueCases

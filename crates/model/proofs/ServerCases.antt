@@ -1,24 +1,18 @@
 -- Document 02, item 5, the deferred server: cases for each of its sentences, computed from the definitions as the starred ones are. Assumes nothing.
 use mathlib.Core.Path.{_≡_, refl}
 use Prim.Native.Nat.{ℕ, _+_, _*_}
-use mathlib.Core.Bool.{true, false}
-use mathlib.Core.Option.{none, some}
 use mathlib.Core.List.{List, [], _∷_, _++_, map}
 use lib.ListN.{replicate, set}
 use Rattle.calendar.specs.declared.WallTime.{WallTime}
 use Rattle.calendar.specs.Calendar.{monthsOf, years, valid, secondsOf}
-use Rattle.model.specs.Lists.{keep, InOrder}
+use Rattle.model.specs.Lists.{keep}
 use Rattle.model.specs.Calls.{Call, layOut, create, cancel, delete, fireAfter, fireWhen, fireEvery, reset, tick, setClock, initiateServer, serverFireAfter, serverFireWhen, serve}
-use Rattle.model.specs.Kinds.{Chain, ByTicks, ByDate, After, ServerAfter, ServerWhen}
+use Rattle.model.specs.Kinds.{After}
 use Rattle.model.specs.State.{idBase}
 use Rattle.model.specs.Sound.{headerSound, slotSound, chainSound, ticksSound, datesSound, queueSound, sound}
-use Rattle.model.specs.Outcome.{statusOn, outcome}
-use Rattle.model.specs.History.{Start, startOf, Event, eventsOn, laidOutFor, changes, deletes, oneTick, clockSetTo, initiates, servesFront, Placed, starts, waits, fires, isQueued, inChain, ticksLeftOrDate, Queues, leftInQueue, IsQueue, isInitiated, serves, takenOff}
-use Rattle.model.specs.Demand.{after, HandsOut, eventsAfter, Demanded}
-use Rattle.model.proofs.Order.{order, order-in-order}
-use Rattle.model.proofs.QueueLaws.{queue-calm, queue-moved}
+use Rattle.model.specs.Outcome.{statusOn, outcome, after}
 use Rattle.model.proofs.Cases.{Case, calls, computed, lists, date, nine, unlent}
-use Rattle.model.proofs.WorkedCases.{one, two, three, six, no, yes}
+use Rattle.model.proofs.WorkedCases.{one, two, three, no, yes}
 
 abbrev third : ℕ
 third = 0x12010003
@@ -80,54 +74,57 @@ queuedInTurn =
 abbrev pub serverCases : List Case
 serverCases =
     -- Initiate a second time since the lay out is 14; word 8 is 1 once initiated.
-    calls (replicate 34 0) (layOut 3 10 ∷ create 1 ∷ create 2 ∷ create 3 ∷ initiateServer ∷ initiateServer ∷ [])
+    calls (replicate 34 0) (layOut 3 10 0 ∷ create 1 1 ∷ create 1 2 ∷ create 1 3 ∷ initiateServer ∷ initiateServer ∷ [])
     (yes 0 ∷ yes one ∷ yes two ∷ yes third ∷ yes 0 ∷ no 14 ∷ []) (unlent 6) ready
     -- It changes word 8 alone: timers wait on, and the clock stays.
     ∷ calls (started 0) (initiateServer ∷ []) (yes 0 ∷ []) (unlent 1) (started 1)
     -- Lay out clears words 8 and 9; initiate is 0 again, and the queue is empty.
-    ∷ calls queuedAround (layOut 3 10 ∷ []) (yes 0 ∷ []) (unlent 1) (3 ∷ 10 ∷ replicate 32 0)
-    ∷ calls queuedAround (layOut 3 10 ∷ serve three ∷ initiateServer ∷ initiateServer ∷ serve three ∷ [])
+    ∷ calls queuedAround (layOut 3 10 0 ∷ []) (yes 0 ∷ []) (unlent 1) (3 ∷ 10 ∷ replicate 32 0)
+    ∷ calls queuedAround (layOut 3 10 0 ∷ serve 1 three ∷ initiateServer ∷ initiateServer ∷ serve 1 three ∷ [])
     (yes 0 ∷ no 14 ∷ yes 0 ∷ no 14 ∷ yes 0 ∷ []) ([] ∷ three ∷ [] ∷ [] ∷ three ∷ []) (3 ∷ 10 ∷ replicate 6 0 ++ (1 ∷ replicate 25 0))
     -- Any of the others before it is 14, right after 101, and before 10, 9, 11, 20 and 4; so where nothing else is wrong, and where the clock is set.
     ∷ calls (1 ∷ 10 ∷ replicate 8 0 ++ created 1)
-    (serve (1 ∷ 2 ∷ []) ∷ serve three ∷ serverFireAfter two 0 0 0 ∷ serverFireAfter one 1 7 70 ∷ serverFireWhen two (date 1989 2 29 0 0 0) 0 0
-    ∷ setClock (at 0) three ∷ serverFireWhen two (date 1989 2 29 0 0 0) 0 0 ∷ serverFireWhen one (at 1) 7 70 ∷ serve three ∷ [])
+    (serve 1 (1 ∷ 2 ∷ []) ∷ serve 1 three ∷ serverFireAfter 1 two 0 0 0 ∷ serverFireAfter 1 one 1 7 70 ∷ serverFireWhen 1 two (date 1989 2 29 0 0 0) 0 0
+    ∷ setClock (at 0) three ∷ serverFireWhen 1 two (date 1989 2 29 0 0 0) 0 0 ∷ serverFireWhen 1 one (at 1) 7 70 ∷ serve 1 three ∷ [])
     (no 101 ∷ no 14 ∷ no 14 ∷ no 14 ∷ no 14 ∷ yes 0 ∷ no 14 ∷ no 14 ∷ no 14 ∷ [])
     ((1 ∷ 2 ∷ []) ∷ three ∷ [] ∷ [] ∷ [] ∷ three ∷ [] ∷ [] ∷ three ∷ []) (1 ∷ 10 ∷ 1 ∷ 378691200 ∷ replicate 6 0 ++ created 1)
     -- And 100 is before 101 and 14, initiated or not.
-    ∷ calls (1 ∷ 10 ∷ replicate 5 0 ++ (1 ∷ 0 ∷ 0 ∷ created 1)) (serverFireAfter two 0 0 0 ∷ serverFireWhen two (at 1) 0 0 ∷ serve [] ∷ [])
+    ∷ calls (1 ∷ 10 ∷ replicate 5 0 ++ (1 ∷ 0 ∷ 0 ∷ created 1)) (serverFireAfter 1 two 0 0 0 ∷ serverFireWhen 1 two (at 1) 0 0 ∷ serve 1 [] ∷ [])
     (no 100 ∷ no 100 ∷ no 100 ∷ []) (unlent 3) (1 ∷ 10 ∷ replicate 5 0 ++ (1 ∷ 0 ∷ 0 ∷ created 1))
-    ∷ calls (1 ∷ 10 ∷ replicate 5 0 ++ (1 ∷ 1 ∷ 0 ∷ created 1)) (initiateServer ∷ serve [] ∷ []) (no 100 ∷ no 100 ∷ []) (unlent 2)
+    ∷ calls (1 ∷ 10 ∷ replicate 5 0 ++ (1 ∷ 1 ∷ 0 ∷ created 1)) (initiateServer ∷ serve 1 [] ∷ []) (no 100 ∷ no 100 ∷ []) (unlent 2)
     (1 ∷ 10 ∷ replicate 5 0 ++ (1 ∷ 1 ∷ 0 ∷ created 1))
     -- After that the two starts refuse as fire after and fire when do: 10, 9, 4; 11, 9, 20, 4, where 20 is the present second's too.
     ∷ calls (1 ∷ 10 ∷ replicate 6 0 ++ (1 ∷ 0 ∷ created 1))
-    (serverFireAfter two 0 0 0 ∷ serverFireAfter two 1 0 0 ∷ serverFireAfter two 1 7 0 ∷ serverFireWhen two (date 1989 2 29 0 0 0) 0 0 ∷ setClock (at 0) three
-    ∷ serverFireWhen two (date 1989 2 29 0 0 0) 0 0 ∷ serverFireWhen two (date 1989 2 29 0 0 0) 7 0 ∷ serverFireWhen two (at 0) 7 0
-    ∷ serverFireWhen two (at 1) 7 0 ∷ serverFireAfter one 1 7 70 ∷ serverFireWhen one (at 1) 8 80 ∷ [])
+    (serverFireAfter 1 two 0 0 0 ∷ serverFireAfter 1 two 1 0 0 ∷ serverFireAfter 1 two 1 7 0 ∷ serverFireWhen 1 two (date 1989 2 29 0 0 0) 0 0
+    ∷ setClock (at 0) three
+    ∷ serverFireWhen 1 two (date 1989 2 29 0 0 0) 0 0 ∷ serverFireWhen 1 two (date 1989 2 29 0 0 0) 7 0 ∷ serverFireWhen 1 two (at 0) 7 0
+    ∷ serverFireWhen 1 two (at 1) 7 0 ∷ serverFireAfter 1 one 1 7 70 ∷ serverFireWhen 1 one (at 1) 8 80 ∷ [])
     (no 10 ∷ no 9 ∷ no 4 ∷ no 11 ∷ yes 0 ∷ no 9 ∷ no 20 ∷ no 20 ∷ no 4 ∷ yes 0 ∷ yes 0 ∷ []) (unlent 4 ++ (three ∷ unlent 6))
     (1 ∷ 10 ∷ 1 ∷ 378691200 ∷ 0 ∷ 0 ∷ 1 ∷ 0 ∷ 1 ∷ 0 ∷ 11 ∷ 1 ∷ 0 ∷ 378691201 ∷ 8 ∷ 80 ∷ 0 ∷ 0 ∷ [])
     -- When due they go to the back of the queue, not into the fired list or its count: two in one tick, and one that fires between them.
-    ∷ calls ready (serverFireAfter one 1 7 70 ∷ fireAfter two 1 8 80 ∷ serverFireAfter third 1 9 90 ∷ tick nine ∷ []) (yes 0 ∷ yes 0 ∷ yes 0 ∷ yes 1 ∷ [])
+    ∷ calls ready (serverFireAfter 1 one 1 7 70 ∷ fireAfter 1 two 1 8 80 ∷ serverFireAfter 1 third 1 9 90 ∷ tick nine ∷ []) (yes 0 ∷ yes 0 ∷ yes 0 ∷ yes 1 ∷ [])
     (unlent 3 ++ ((two ∷ 8 ∷ 80 ∷ replicate 6 99) ∷ [])) queuedAround
     -- Serve needs three words of list, else 101. It hands out the front's three words, leaves it idle and answers 1.
-    ∷ calls queuedAround (serve (1 ∷ 2 ∷ []) ∷ []) (no 101 ∷ []) ((1 ∷ 2 ∷ []) ∷ []) queuedAround
-    ∷ calls queuedAround (serve three ∷ []) (yes 1 ∷ []) ((one ∷ 7 ∷ 70 ∷ []) ∷ [])
+    ∷ calls queuedAround (serve 1 (1 ∷ 2 ∷ []) ∷ []) (no 101 ∷ []) ((1 ∷ 2 ∷ []) ∷ []) queuedAround
+    ∷ calls queuedAround (serve 1 three ∷ []) (yes 1 ∷ []) ((one ∷ 7 ∷ 70 ∷ []) ∷ [])
     (3 ∷ 10 ∷ 0 ∷ 0 ∷ 0 ∷ 0 ∷ 0 ∷ 0 ∷ 1 ∷ 3
     ∷ 8 ∷ 1 ∷ 1 ∷ 0 ∷ 7 ∷ 70 ∷ 0 ∷ 0
     ∷ 2 ∷ 2 ∷ 1 ∷ 0 ∷ 8 ∷ 80 ∷ 0 ∷ 0
     ∷ 12 ∷ 3 ∷ 1 ∷ 0 ∷ 9 ∷ 90 ∷ 0 ∷ 0 ∷ [])
     -- It answers 0 if the queue is empty: 1, 1, 0, 0, and words past the entry stay. With an empty queue no word changes, and 101 is still 101.
-    ∷ calls queuedAround (serve three ∷ serve nine ∷ serve three ∷ serve nine ∷ []) (yes 1 ∷ yes 1 ∷ yes 0 ∷ yes 0 ∷ [])
+    ∷ calls queuedAround (serve 1 three ∷ serve 1 nine ∷ serve 1 three ∷ serve 1 nine ∷ []) (yes 1 ∷ yes 1 ∷ yes 0 ∷ yes 0 ∷ [])
     ((one ∷ 7 ∷ 70 ∷ []) ∷ (third ∷ 9 ∷ 90 ∷ replicate 6 99) ∷ three ∷ nine ∷ [])
     (3 ∷ 10 ∷ 0 ∷ 0 ∷ 0 ∷ 0 ∷ 0 ∷ 0 ∷ 1 ∷ 0
     ∷ 8 ∷ 1 ∷ 1 ∷ 0 ∷ 7 ∷ 70 ∷ 0 ∷ 0
     ∷ 2 ∷ 2 ∷ 1 ∷ 0 ∷ 8 ∷ 80 ∷ 0 ∷ 0
     ∷ 8 ∷ 3 ∷ 1 ∷ 0 ∷ 9 ∷ 90 ∷ 0 ∷ 0 ∷ [])
-    ∷ calls ready (serve three ∷ serve (1 ∷ 2 ∷ []) ∷ []) (yes 0 ∷ no 101 ∷ []) (three ∷ (1 ∷ 2 ∷ []) ∷ []) ready
+    ∷ calls ready (serve 1 three ∷ serve 1 (1 ∷ 2 ∷ []) ∷ []) (yes 0 ∷ no 101 ∷ []) (three ∷ (1 ∷ 2 ∷ []) ∷ []) ready
     -- Interval ones are queued first and then dated ones, as others are listed, although the dated one was started earlier.
-    ∷ calls clocked (serverFireWhen one (at 1) 7 70 ∷ fireWhen two (at 1) 8 80 ∷ serverFireAfter third 1 9 90 ∷ fireAfter fourth 1 10 100 ∷ tick twelve ∷ [])
+    ∷ calls clocked (serverFireWhen 1 one (at 1) 7 70 ∷ fireWhen 1 two (at 1) 8 80 ∷ serverFireAfter 1 third 1 9 90 ∷ fireAfter 1 fourth 1 10 100
+    ∷ tick twelve ∷ [])
     (yes 0 ∷ yes 0 ∷ yes 0 ∷ yes 0 ∷ yes 2 ∷ []) (unlent 4 ++ ((fourth ∷ 10 ∷ 100 ∷ two ∷ 8 ∷ 80 ∷ replicate 6 99) ∷ [])) queuedBoth
-    ∷ calls queuedBoth (serve three ∷ serve three ∷ serve three ∷ []) (yes 1 ∷ yes 1 ∷ yes 0 ∷ []) ((third ∷ 9 ∷ 90 ∷ []) ∷ (one ∷ 7 ∷ 70 ∷ []) ∷ three ∷ [])
+    ∷ calls queuedBoth (serve 1 three ∷ serve 1 three ∷ serve 1 three ∷ []) (yes 1 ∷ yes 1 ∷ yes 0 ∷ [])
+    ((third ∷ 9 ∷ 90 ∷ []) ∷ (one ∷ 7 ∷ 70 ∷ []) ∷ three ∷ [])
     (4 ∷ 1 ∷ 1 ∷ 378691201 ∷ 0 ∷ 0 ∷ 0 ∷ 0 ∷ 1 ∷ 0
     ∷ 9 ∷ 1 ∷ 0 ∷ 0 ∷ 7 ∷ 70 ∷ 0 ∷ 0
     ∷ 3 ∷ 2 ∷ 0 ∷ 0 ∷ 8 ∷ 80 ∷ 0 ∷ 0
@@ -135,7 +132,8 @@ serverCases =
     ∷ 2 ∷ 4 ∷ 1 ∷ 0 ∷ 10 ∷ 100 ∷ 0 ∷ 0 ∷ [])
     -- Set clock queues dated server timers, by their dates, and lists another; the interval one waits on.
     ∷ calls clocked
-    (serverFireWhen one (at 6) 7 70 ∷ fireWhen two (at 5) 8 80 ∷ serverFireWhen third (at 5) 9 90 ∷ serverFireAfter fourth 1 10 100 ∷ setClock (at 6) twelve ∷ [])
+    (serverFireWhen 1 one (at 6) 7 70 ∷ fireWhen 1 two (at 5) 8 80 ∷ serverFireWhen 1 third (at 5) 9 90 ∷ serverFireAfter 1 fourth 1 10 100
+    ∷ setClock (at 6) twelve ∷ [])
     (yes 0 ∷ yes 0 ∷ yes 0 ∷ yes 0 ∷ yes 1 ∷ []) (unlent 4 ++ ((two ∷ 8 ∷ 80 ∷ replicate 9 99) ∷ []))
     (4 ∷ 1 ∷ 1 ∷ 378691206 ∷ 0 ∷ 4 ∷ 0 ∷ 0 ∷ 1 ∷ 3
     ∷ 13 ∷ 1 ∷ 0 ∷ 0 ∷ 7 ∷ 70 ∷ 0 ∷ 3
@@ -143,7 +141,7 @@ serverCases =
     ∷ 13 ∷ 3 ∷ 0 ∷ 0 ∷ 9 ∷ 90 ∷ 1 ∷ 0
     ∷ 10 ∷ 4 ∷ 1 ∷ 1 ∷ 10 ∷ 100 ∷ 0 ∷ 0 ∷ [])
     -- Beside periodic timers: those are listed and go back, tick after tick, and the server timer is queued once and stays there.
-    ∷ calls ready (fireEvery one 2 7 70 ∷ serverFireAfter two 2 8 80 ∷ fireEvery third 1 9 90 ∷ tick nine ∷ tick nine ∷ tick nine ∷ tick nine ∷ [])
+    ∷ calls ready (fireEvery 1 one 2 7 70 ∷ serverFireAfter 1 two 2 8 80 ∷ fireEvery 1 third 1 9 90 ∷ tick nine ∷ tick nine ∷ tick nine ∷ tick nine ∷ [])
     (yes 0 ∷ yes 0 ∷ yes 0 ∷ yes 1 ∷ yes 2 ∷ yes 1 ∷ yes 2 ∷ [])
     (unlent 3 ++ ((third ∷ 9 ∷ 90 ∷ replicate 6 99) ∷ (one ∷ 7 ∷ 70 ∷ third ∷ 9 ∷ 90 ∷ replicate 3 99) ∷ (third ∷ 9 ∷ 90 ∷ replicate 6 99)
     ∷ (one ∷ 7 ∷ 70 ∷ third ∷ 9 ∷ 90 ∷ replicate 3 99) ∷ []))
@@ -152,9 +150,9 @@ serverCases =
     ∷ 12 ∷ 2 ∷ 2 ∷ 0 ∷ 8 ∷ 80 ∷ 0 ∷ 0
     ∷ 6 ∷ 3 ∷ 1 ∷ 1 ∷ 9 ∷ 90 ∷ 1 ∷ 0 ∷ [])
     -- To the back: in the order of the ticks, 2, 3 and 1. The first of them is started again, and is the last when it is due.
-    ∷ calls ready (serverFireAfter one 3 7 70 ∷ serverFireAfter two 1 8 80 ∷ serverFireAfter third 2 9 90 ∷ tick nine ∷ tick nine ∷ tick nine ∷ [])
+    ∷ calls ready (serverFireAfter 1 one 3 7 70 ∷ serverFireAfter 1 two 1 8 80 ∷ serverFireAfter 1 third 2 9 90 ∷ tick nine ∷ tick nine ∷ tick nine ∷ [])
     (yes 0 ∷ yes 0 ∷ yes 0 ∷ yes 0 ∷ yes 0 ∷ yes 0 ∷ []) (unlent 3 ++ (nine ∷ nine ∷ nine ∷ [])) queuedInTurn
-    ∷ calls queuedInTurn (serverFireAfter two 1 8 81 ∷ tick nine ∷ tick nine ∷ serve three ∷ serve three ∷ serve three ∷ serve three ∷ [])
+    ∷ calls queuedInTurn (serverFireAfter 1 two 1 8 81 ∷ tick nine ∷ tick nine ∷ serve 1 three ∷ serve 1 three ∷ serve 1 three ∷ serve 1 three ∷ [])
     (yes 0 ∷ yes 0 ∷ yes 0 ∷ yes 1 ∷ yes 1 ∷ yes 1 ∷ yes 0 ∷ [])
     ([] ∷ nine ∷ nine ∷ (third ∷ 9 ∷ 90 ∷ []) ∷ (one ∷ 7 ∷ 70 ∷ []) ∷ (two ∷ 8 ∷ 81 ∷ []) ∷ three ∷ [])
     (3 ∷ 10 ∷ 0 ∷ 0 ∷ 0 ∷ 0 ∷ 0 ∷ 0 ∷ 1 ∷ 0
@@ -174,7 +172,7 @@ pub data Taken : Type 0 where
   taken : List ℕ → Call → ℕ → List ℕ → List (List ℕ) → Taken
 
 abbrev pub tried : Taken → Taken
-tried (taken t c status after handed) = taken t c (outcome t c .status) (outcome t c .table) (lists (outcome t c .table) (replicate 3 (serve three)))
+tried (taken t c status after handed) = taken t c (outcome t c .status) (outcome t c .table) (lists (outcome t c .table) (replicate 3 (serve 1 three)))
 
 -- three timers at 2000-01-01 00:00:01 and 3 ticks, with these first slots in the chains and in the queue
 abbrev held : ℕ → ℕ → ℕ → List ℕ → List ℕ → List ℕ → List ℕ
@@ -213,12 +211,12 @@ anew kind name interval wait = kind ∷ name ∷ interval ∷ wait ∷ 7 ∷ 70 
 
 abbrev takenAt : ℕ → (ℕ → ℕ → List ℕ → List ℕ) → List (List ℕ) → List Taken
 takenAt i rest serves =
-    taken mixed (delete (idBase + i)) 0 (rest 0 0 (replicate 8 0)) serves
-    ∷ taken mixed (fireAfter (idBase + i) 4 7 70) 0 (rest i 0 (anew 4 i 4 4)) serves
-    ∷ taken mixed (fireWhen (idBase + i) (at 9) 7 70) 0 (rest 0 i (anew 5 i 0 378691209)) serves
-    ∷ taken mixed (fireEvery (idBase + i) 4 7 70) 0 (rest i 0 (anew 6 i 4 4)) serves
-    ∷ taken mixed (serverFireAfter (idBase + i) 4 7 70) 0 (rest i 0 (anew 10 i 4 4)) serves
-    ∷ taken mixed (serverFireWhen (idBase + i) (at 9) 7 70) 0 (rest 0 i (anew 11 i 0 378691209)) serves
+    taken mixed (delete 1 (idBase + i)) 0 (rest 0 0 (replicate 8 0)) serves
+    ∷ taken mixed (fireAfter 1 (idBase + i) 4 7 70) 0 (rest i 0 (anew 4 i 4 4)) serves
+    ∷ taken mixed (fireWhen 1 (idBase + i) (at 9) 7 70) 0 (rest 0 i (anew 5 i 0 378691209)) serves
+    ∷ taken mixed (fireEvery 1 (idBase + i) 4 7 70) 0 (rest i 0 (anew 6 i 4 4)) serves
+    ∷ taken mixed (serverFireAfter 1 (idBase + i) 4 7 70) 0 (rest i 0 (anew 10 i 4 4)) serves
+    ∷ taken mixed (serverFireWhen 1 (idBase + i) (at 9) 7 70) 0 (rest 0 i (anew 11 i 0 378691209)) serves
     ∷ []
 
 abbrev pub takenCases : List Taken
@@ -227,23 +225,23 @@ takenCases =
     takenAt 2 noFront (handed 3 ∷ handed 1 ∷ three ∷ []) ++ takenAt 3 noMiddle (handed 2 ∷ handed 1 ∷ three ∷ [])
     ++ takenAt 1 noEnd (handed 2 ∷ handed 3 ∷ three ∷ [])
     -- Cancel leaves it idle: 12 becomes 8, 13 becomes 9.
-    ++ taken mixed (cancel two) 0 (noFront 0 0 (slot 8 2 6 0 0 0)) (handed 3 ∷ handed 1 ∷ three ∷ [])
-    ∷ taken mixed (cancel third) 0 (noMiddle 0 0 (slot 9 3 0 0 0 0)) (handed 2 ∷ handed 1 ∷ three ∷ [])
-    ∷ taken mixed (cancel one) 0 (noEnd 0 0 (slot 8 1 5 0 0 0)) (handed 2 ∷ handed 3 ∷ three ∷ [])
+    ++ taken mixed (cancel 1 two) 0 (noFront 0 0 (slot 8 2 6 0 0 0)) (handed 3 ∷ handed 1 ∷ three ∷ [])
+    ∷ taken mixed (cancel 1 third) 0 (noMiddle 0 0 (slot 9 3 0 0 0 0)) (handed 2 ∷ handed 1 ∷ three ∷ [])
+    ∷ taken mixed (cancel 1 one) 0 (noEnd 0 0 (slot 8 1 5 0 0 0)) (handed 2 ∷ handed 3 ∷ three ∷ [])
     -- Reset takes 12 and starts it again as a server timer, with its interval; it gives 11 for 13, which stays queued.
-    ∷ taken mixed (reset two) 0 (noFront 2 0 (slot 10 2 6 6 0 0)) (handed 3 ∷ handed 1 ∷ three ∷ [])
-    ∷ taken mixed (reset third) 11 mixed allThree
-    ∷ taken mixed (reset one) 0 (noEnd 1 0 (slot 10 1 5 5 0 0)) (handed 2 ∷ handed 3 ∷ three ∷ [])
+    ∷ taken mixed (reset 1 two) 0 (noFront 2 0 (slot 10 2 6 6 0 0)) (handed 3 ∷ handed 1 ∷ three ∷ [])
+    ∷ taken mixed (reset 1 third) 11 mixed allThree
+    ∷ taken mixed (reset 1 one) 0 (noEnd 1 0 (slot 10 1 5 5 0 0)) (handed 2 ∷ handed 3 ∷ three ∷ [])
     -- The same where 12 is in the middle and 13 at both ends.
-    ∷ taken crossed (cancel two) 0 (held 0 0 3 (slot 13 1 0 0 0 3) (slot 9 2 0 0 0 0) (slot 12 3 6 0 1 0)) (handed 3 ∷ handed 1 ∷ three ∷ [])
-    ∷ taken crossed (cancel third) 0 (held 0 0 2 (slot 13 1 0 0 0 2) (slot 13 2 0 0 1 0) (slot 8 3 6 0 0 0)) (handed 2 ∷ handed 1 ∷ three ∷ [])
-    ∷ taken crossed (cancel one) 0 (held 0 0 2 (slot 9 1 0 0 0 0) (slot 13 2 0 0 3 0) (slot 12 3 6 0 0 2)) (handed 2 ∷ handed 3 ∷ three ∷ [])
-    ∷ taken crossed (reset two) 11 crossed allThree
-    ∷ taken crossed (reset third) 0 (held 3 0 2 (slot 13 1 0 0 0 2) (slot 13 2 0 0 1 0) (slot 10 3 6 6 0 0)) (handed 2 ∷ handed 1 ∷ three ∷ [])
-    ∷ taken crossed (reset one) 11 crossed allThree
+    ∷ taken crossed (cancel 1 two) 0 (held 0 0 3 (slot 13 1 0 0 0 3) (slot 9 2 0 0 0 0) (slot 12 3 6 0 1 0)) (handed 3 ∷ handed 1 ∷ three ∷ [])
+    ∷ taken crossed (cancel 1 third) 0 (held 0 0 2 (slot 13 1 0 0 0 2) (slot 13 2 0 0 1 0) (slot 8 3 6 0 0 0)) (handed 2 ∷ handed 1 ∷ three ∷ [])
+    ∷ taken crossed (cancel 1 one) 0 (held 0 0 2 (slot 9 1 0 0 0 0) (slot 13 2 0 0 3 0) (slot 12 3 6 0 0 2)) (handed 2 ∷ handed 3 ∷ three ∷ [])
+    ∷ taken crossed (reset 1 two) 11 crossed allThree
+    ∷ taken crossed (reset 1 third) 0 (held 3 0 2 (slot 13 1 0 0 0 2) (slot 13 2 0 0 1 0) (slot 10 3 6 6 0 0)) (handed 2 ∷ handed 1 ∷ three ∷ [])
+    ∷ taken crossed (reset 1 one) 11 crossed allThree
     -- A refused call leaves it queued.
-    ∷ taken mixed (serverFireAfter two 0 7 70) 10 mixed allThree ∷ taken mixed (fireAfter third 1 0 70) 9 mixed allThree
-    ∷ taken mixed (serverFireWhen one (at 1) 7 70) 20 mixed allThree ∷ taken mixed (delete fourth) 4 mixed allThree
+    ∷ taken mixed (serverFireAfter 1 two 0 7 70) 10 mixed allThree ∷ taken mixed (fireAfter 1 third 1 0 70) 9 mixed allThree
+    ∷ taken mixed (serverFireWhen 1 one (at 1) 7 70) 20 mixed allThree ∷ taken mixed (delete 1 fourth) 4 mixed allThree
     ∷ []
 
 pub taken-off : map tried takenCases ≡ takenCases
@@ -259,132 +257,3 @@ soundWith i = keep (λ v. sound (set mixed i v)) (0 ∷ 1 ∷ 2 ∷ 3 ∷ 4 ∷ 
 pub only-these-links : map soundWith (9 ∷ 16 ∷ 17 ∷ 24 ∷ 25 ∷ 32 ∷ 33 ∷ []) ≡ (2 ∷ []) ∷ (0 ∷ []) ∷ (3 ∷ []) ∷ (3 ∷ []) ∷ (0 ∷ []) ∷ (1 ∷ []) ∷ (2 ∷ []) ∷ []
 unfolding headerSound slotSound chainSound ticksSound datesSound queueSound sound
 only-these-links = refl
-
--- ---- the words of demand 3
-
--- Interval server timers x and z, for one tick, a dated one, d, for second 5, and one that fires, o. It is second 4, with one tick a second.
-abbrev x : Start
-x = startOf one ServerAfter 1 7 70
-
-abbrev d : Start
-d = startOf two ServerWhen 5 8 80
-
-abbrev o : Start
-o = startOf third After 1 9 90
-
-abbrev z : Start
-z = startOf fourth ServerAfter 1 10 100
-
-abbrev before : List Event
-before = changes one (some x) ∷ changes third (some o) ∷ changes two (some d) ∷ initiates ∷ clockSetTo 4 0 ∷ laidOutFor 1 ∷ []
-
-abbrev idsOf : List Placed → List ℕ
-idsOf l = map (λ (g : Placed). g .begun .id) l
-
--- The calls as events, the latest first. A reset takes the last start, also over an initiate or a serve.
-pub events-of : eventsOn []
-    (layOut 4 1 ∷ fireAfter third 1 9 90 ∷ initiateServer ∷ reset third ∷ serverFireWhen two (date 1988 1 1 0 0 5) 8 80 ∷ serverFireAfter one 1 7 70
-    ∷ tick twelve ∷ serve three ∷ reset one ∷ [])
-    ≡ changes one (some x) ∷ servesFront ∷ oneTick ∷ changes one (some x) ∷ changes two (some d) ∷ changes third (some o) ∷ initiates ∷ changes third (some o)
-    ∷ laidOutFor 1 ∷ []
-unfolding monthsOf years valid secondsOf
-events-of = refl
-
--- Initiated since the lay out; and how many serves.
-pub since-lay-out : map isInitiated (before ∷ (servesFront ∷ oneTick ∷ before) ∷ (laidOutFor 1 ∷ before) ∷ []) ≡ true ∷ true ∷ false ∷ []
-since-lay-out = refl
-
-pub serves-counted : map serves ((servesFront ∷ oneTick ∷ servesFront ∷ []) ∷ before ∷ []) ≡ 2 ∷ 0 ∷ []
-serves-counted = refl
-
--- "Fires" reads "is queued" for them: in the next tick o fires, d and x are queued; a set clock to second 5 queues d, one to second 4 nothing.
-pub fires-or-queued : map (λ e. idsOf (keep (fires e) (starts before)) ∷ idsOf (keep (isQueued e) (starts before)) ∷ []) (oneTick ∷ clockSetTo 5 0 ∷ clockSetTo 4 0 ∷ [])
-    ≡ ((third ∷ []) ∷ (two ∷ one ∷ []) ∷ []) ∷ ([] ∷ (two ∷ []) ∷ []) ∷ ([] ∷ [] ∷ []) ∷ []
-fires-or-queued = refl
-
--- They wait until then, by their ticks left or dates, and not after it: in a second tick only z is due, which was started between the two.
-pub queued-once : map (λ h. idsOf (keep waits (starts h)) ∷ map ticksLeftOrDate (keep waits (starts h)) ∷ idsOf (keep (isQueued oneTick) (starts h)) ∷ [])
-    (before ∷ (changes fourth (some z) ∷ oneTick ∷ before) ∷ [])
-    ≡ ((two ∷ third ∷ one ∷ []) ∷ (5 ∷ 1 ∷ 1 ∷ []) ∷ (two ∷ one ∷ []) ∷ []) ∷ ((fourth ∷ []) ∷ (1 ∷ []) ∷ (fourth ∷ []) ∷ []) ∷ []
-queued-once = refl
-
--- Started again for 3 ticks it has 2 left after one.
-pub ticks-left : map ticksLeftOrDate (keep waits (starts (oneTick ∷ changes one (some (startOf one ServerAfter 3 7 70)) ∷ before))) ≡ 2 ∷ []
-ticks-left = refl
-
--- the starts of a chain that an event queues, in firing order
-abbrev queuing : Chain → Event → List Event → List Placed
-queuing k e h = order ticksLeftOrDate (keep (inChain k) (keep (isQueued e) (starts h)))
-
-queuing-order : (k : Chain) (e : Event) (h : List Event) → InOrder ticksLeftOrDate (keep (inChain k) (keep (isQueued e) (starts h))) (queuing k e h)
-queuing-order k e h = order-in-order ticksLeftOrDate (keep (inChain k) (keep (isQueued e) (starts h)))
-
--- The queue is empty. The tick queues x and then d: the interval one first, although it was started later.
-pub queue-empty : IsQueue before []
-queue-empty =
-    queue-calm _ (changes one (some x)) [] refl (queue-calm _ (changes third (some o)) [] refl (queue-calm _ (changes two (some d)) [] refl
-    (queue-calm _ initiates [] refl (queue-moved (laidOutFor 1 ∷ []) (clockSetTo 4 0) [] refl (λ j. refl) (queue-calm [] (laidOutFor 1) [] refl refl)))))
-
-pub interval-first : IsQueue before [] → IsQueue (oneTick ∷ before) (x ∷ d ∷ [])
-interval-first empty =
-    let queues : Queues before oneTick (x ∷ d ∷ []) = record {
-      ticking = queuing ByTicks oneTick before;
-      dated = queuing ByDate oneTick before;
-      ticking-order = queuing-order ByTicks oneTick before;
-      dated-order = queuing-order ByDate oneTick before;
-      is = refl;
-    } in
-    ([], x ∷ d ∷ [], empty, queues, refl)
-
--- Then z is started, and is behind them when it is due.
-abbrev next : List Event
-next = changes fourth (some z) ∷ oneTick ∷ before
-
-pub to-the-back : IsQueue next (x ∷ d ∷ []) → IsQueue (oneTick ∷ next) (x ∷ d ∷ z ∷ [])
-to-the-back two-queued =
-    let queues : Queues next oneTick (z ∷ []) = record {
-      ticking = queuing ByTicks oneTick next;
-      dated = queuing ByDate oneTick next;
-      ticking-order = queuing-order ByTicks oneTick next;
-      dated-order = queuing-order ByDate oneTick next;
-      is = refl;
-    } in
-    (x ∷ d ∷ [], z ∷ [], two-queued, queues, refl)
-
--- How many of x and d are taken off ahead of another: x is cancelled; and d is handed out after it. x is handed out, and cancelled when it is no more
--- ahead. x is started again, and the new start ended: it counts once. x is started again, and d deleted. Calls of another.
-pub taken-off-ahead : map (λ es. takenOff es (x ∷ d ∷ []))
-    ((changes one none ∷ []) ∷ (servesFront ∷ changes one none ∷ []) ∷ (changes one none ∷ servesFront ∷ [])
-    ∷ (changes one none ∷ changes one (some x) ∷ []) ∷ (deletes two ∷ changes one (some x) ∷ []) ∷ (changes third none ∷ oneTick ∷ servesFront ∷ []) ∷ [])
-    ≡ 1 ∷ 1 ∷ 0 ∷ 1 ∷ 2 ∷ 0 ∷ []
-taken-off-ahead = refl
-
--- What is left of them in the queue after a serve, a cancel of the second, a delete of the first, and a lay out; after a tick, an initiate, and a start
--- of another.
-pub left-in-queue : map (λ e. map (λ (s : Start). s .id) (leftInQueue e (x ∷ d ∷ [])))
-    (servesFront ∷ changes two none ∷ deletes one ∷ laidOutFor 10 ∷ oneTick ∷ initiates ∷ changes fourth (some z) ∷ [])
-    ≡ (two ∷ []) ∷ (one ∷ []) ∷ (two ∷ []) ∷ [] ∷ (one ∷ two ∷ []) ∷ (one ∷ two ∷ []) ∷ (one ∷ two ∷ []) ∷ []
-left-in-queue = refl
-
--- Two timers are queued. The second is handed out by the second serve after that; by the first where the one ahead of it is cancelled.
-abbrev slice : List ℕ
-slice = replicate 26 0
-
-abbrev untilQueued : List Call
-untilQueued = create 1 ∷ create 2 ∷ initiateServer ∷ serverFireAfter one 1 7 70 ∷ serverFireAfter two 1 8 80 ∷ tick six ∷ []
-
-abbrev ahead : Start
-ahead = startOf one ServerAfter 1 7 70
-
-abbrev second : Start
-second = startOf two ServerAfter 1 8 80
-
-pub by-second-serve : Demanded slice 2 10 (untilQueued ++ (serve three ∷ serve three ∷ [])) → IsQueue (eventsAfter slice (layOut 2 10 ∷ untilQueued)) (ahead ∷ second ∷ [])
-    → HandsOut (after slice (layOut 2 10 ∷ untilQueued ++ (serve three ∷ []))) three second
-unfolding headerSound slotSound chainSound ticksSound datesSound queueSound sound statusOn outcome
-by-second-serve demanded queue = demanded .in-turn untilQueued (serve three ∷ []) [] three refl (ahead ∷ []) [] second queue (servesFront ∷ []) refl refl refl
-
-pub one-sooner : Demanded slice 2 10 (untilQueued ++ (cancel one ∷ serve three ∷ [])) → IsQueue (eventsAfter slice (layOut 2 10 ∷ untilQueued)) (ahead ∷ second ∷ [])
-    → HandsOut (after slice (layOut 2 10 ∷ untilQueued ++ (cancel one ∷ []))) three second
-unfolding headerSound slotSound chainSound ticksSound datesSound queueSound sound statusOn outcome
-one-sooner demanded queue = demanded .in-turn untilQueued (cancel one ∷ []) [] three refl (ahead ∷ []) [] second queue (changes one none ∷ []) refl refl refl

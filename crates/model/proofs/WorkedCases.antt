@@ -2,16 +2,13 @@
 -- status with its other side, answers that no clause of demand 3 speaks of, and periodic timers. Assumes nothing.
 use mathlib.Core.Path.{_≡_, refl}
 use Prim.Native.Nat.{ℕ, _*_}
-use mathlib.Core.Option.{some}
 use mathlib.Core.List.{List, [], _∷_, _++_, map}
 use lib.ListN.{replicate}
 use Rattle.calendar.specs.Calendar.{monthsOf, years, valid, secondsOf, dateOf}
 use Rattle.model.specs.Calls.{Call, layOut, create, ident, cancel, delete, fireAfter, fireWhen, fireEvery, reset, ticksLeft, tick, setClock, getClock, nextDue, initiateServer, serverFireAfter, serverFireWhen, serve, leap, callNumber}
 use Rattle.model.specs.Sound.{headerSound, slotSound, chainSound, ticksSound, datesSound, queueSound, sound}
-use Rattle.model.specs.Outcome.{statusOn, outcome}
-use Rattle.model.specs.Kinds.{After, Every}
-use Rattle.model.specs.History.{startOf, laidOutFor, changes, oneTick, Placed, starts}
-use Rattle.model.specs.Demand.{after}
+use Rattle.model.specs.Outcome.{statusOn, outcome, after}
+use Rattle.model.specs.Kinds.{Every}
 use Rattle.model.proofs.Cases.{Case, calls, computed, date, nine, unlent}
 
 -- the first and the second id, and lists of three and of six words
@@ -37,7 +34,7 @@ yes answer = 0 ∷ answer ∷ []
 -- three timers, for 3 ticks, every 3 ticks and for 3 ticks, and three ticks
 abbrev guarded : List Call
 guarded =
-    layOut 3 10 ∷ create 1 ∷ create 2 ∷ create 3 ∷ fireAfter one 3 1 10 ∷ fireEvery two 3 2 20 ∷ fireAfter 0x12010003 3 3 30
+    layOut 3 10 0 ∷ create 1 1 ∷ create 1 2 ∷ create 1 3 ∷ fireAfter 1 one 3 1 10 ∷ fireEvery 1 two 3 2 20 ∷ fireAfter 1 0x12010003 3 3 30
     ∷ tick nine ∷ tick nine ∷ tick nine ∷ []
 
 abbrev guardedLines : List (List ℕ)
@@ -51,49 +48,50 @@ abbrev oneSlot : ℕ → ℕ → ℕ → ℕ → List ℕ
 oneSlot head kind interval wait = 1 ∷ 10 ∷ 0 ∷ 0 ∷ 0 ∷ head ∷ 0 ∷ 0 ∷ 0 ∷ 0 ∷ kind ∷ 1 ∷ interval ∷ wait ∷ 7 ∷ 70 ∷ 0 ∷ 0 ∷ []
 
 abbrev asked : List ℕ → List ℕ → Case
-asked t line = calls t (ticksLeft one ∷ []) (line ∷ []) (unlent 1) t
+asked t line = calls t (ticksLeft 1 one ∷ []) (line ∷ []) (unlent 1) t
 
 abbrev pub workedCases : List Case
 workedCases =
     -- T is 2: the second tick brings the next second, and the timer dated to it fires then; the third is one tick into it. Nothing else is written.
     calls (replicate 18 0)
-    (layOut 1 2 ∷ create 1 ∷ setClock (date 2000 2 29 23 59 59) three ∷ fireWhen one (date 2000 3 1 0 0 0) 7 70 ∷ tick three ∷ tick three ∷ tick three ∷ getClock ∷ [])
+    (layOut 1 2 0 ∷ create 1 1 ∷ setClock (date 2000 2 29 23 59 59) three ∷ fireWhen 1 one (date 2000 3 1 0 0 0) 7 70 ∷ tick three ∷ tick three ∷ tick three
+    ∷ getClock ∷ [])
     (yes 0 ∷ yes one ∷ yes 0 ∷ yes 0 ∷ yes 0 ∷ yes 1 ∷ yes 0 ∷ (0 ∷ 2000 ∷ 3 ∷ 1 ∷ 0 ∷ 0 ∷ 0 ∷ 1 ∷ []) ∷ [])
     ([] ∷ [] ∷ three ∷ [] ∷ three ∷ (one ∷ 7 ∷ 70 ∷ []) ∷ three ∷ [] ∷ [])
     (1 ∷ 2 ∷ 1 ∷ 383875200 ∷ 1 ∷ 0 ∷ 0 ∷ 0 ∷ 0 ∷ 0 ∷ 3 ∷ 1 ∷ 0 ∷ 0 ∷ 7 ∷ 70 ∷ 0 ∷ 0 ∷ [])
     -- A set clock to the date fires it, the interval timer stays; set back it moves neither.
     ∷ calls (replicate 26 0)
-    (layOut 2 10 ∷ create 1 ∷ create 1 ∷ setClock (date 2000 1 1 0 0 0) six ∷ fireWhen two (date 2000 1 1 0 0 5) 8 80 ∷ fireAfter one 3 7 70
-    ∷ setClock (date 2000 1 1 0 0 5) six ∷ setClock (date 1999 1 1 0 0 0) six ∷ ticksLeft one ∷ ticksLeft two ∷ ident 1 ∷ [])
+    (layOut 2 10 0 ∷ create 1 1 ∷ create 1 1 ∷ setClock (date 2000 1 1 0 0 0) six ∷ fireWhen 1 two (date 2000 1 1 0 0 5) 8 80 ∷ fireAfter 1 one 3 7 70
+    ∷ setClock (date 2000 1 1 0 0 5) six ∷ setClock (date 1999 1 1 0 0 0) six ∷ ticksLeft 1 one ∷ ticksLeft 1 two ∷ ident 1 1 ∷ [])
     (yes 0 ∷ yes one ∷ yes two ∷ yes 0 ∷ yes 0 ∷ yes 0 ∷ yes 1 ∷ yes 0 ∷ yes 3 ∷ yes 0 ∷ yes one ∷ [])
     (unlent 3 ++ (six ∷ [] ∷ [] ∷ (two ∷ 8 ∷ 80 ∷ 99 ∷ 99 ∷ 99 ∷ []) ∷ six ∷ unlent 3))
     (2 ∷ 10 ∷ 1 ∷ 347155200 ∷ 0 ∷ 1 ∷ 0 ∷ 0 ∷ 0 ∷ 0 ∷ 4 ∷ 1 ∷ 3 ∷ 3 ∷ 7 ∷ 70 ∷ 0 ∷ 0 ∷ 3 ∷ 1 ∷ 0 ∷ 0 ∷ 8 ∷ 80 ∷ 0 ∷ 0 ∷ [])
     -- Lay out: 10 at both sides of both limits, then 8; words past the table stay.
-    ∷ calls (replicate 19 5) (layOut 0 10 ∷ layOut 256 10 ∷ layOut 1 0 ∷ layOut 1 1001 ∷ layOut 2 10 ∷ layOut 1 1000 ∷ [])
+    ∷ calls (replicate 19 5) (layOut 0 10 0 ∷ layOut 256 10 0 ∷ layOut 1 0 0 ∷ layOut 1 1001 0 ∷ layOut 2 10 0 ∷ layOut 1 1000 0 ∷ [])
     (no 10 ∷ no 10 ∷ no 10 ∷ no 10 ∷ no 8 ∷ yes 0 ∷ []) (unlent 6) (1 ∷ 1000 ∷ replicate 16 0 ++ (5 ∷ []))
     -- Create 3, 5; ident 3 twice; an id that names no timer: 4, before reset's 11; after the delete it is free again.
     ∷ calls (replicate 18 0)
-    (layOut 1 10 ∷ create 0 ∷ ident 0 ∷ ident 1 ∷ cancel one ∷ delete one ∷ reset one ∷ ticksLeft one ∷ create 1 ∷ create 2 ∷ cancel two ∷ reset one
-    ∷ cancel one ∷ fireAfter one 5 7 70 ∷ cancel one ∷ cancel one ∷ delete one ∷ delete one ∷ create 2 ∷ [])
+    (layOut 1 10 0 ∷ create 1 0 ∷ ident 1 0 ∷ ident 1 1 ∷ cancel 1 one ∷ delete 1 one ∷ reset 1 one ∷ ticksLeft 1 one ∷ create 1 1 ∷ create 1 2
+    ∷ cancel 1 two ∷ reset 1 one ∷ cancel 1 one ∷ fireAfter 1 one 5 7 70 ∷ cancel 1 one ∷ cancel 1 one ∷ delete 1 one ∷ delete 1 one ∷ create 1 2 ∷ [])
     (yes 0 ∷ no 3 ∷ no 3 ∷ no 3 ∷ no 4 ∷ no 4 ∷ no 4 ∷ no 4 ∷ yes one ∷ no 5 ∷ no 4 ∷ no 11 ∷ no 14 ∷ yes 0 ∷ yes 0 ∷ no 14 ∷ yes 0 ∷ no 4 ∷ yes one ∷ [])
     (unlent 19) (1 ∷ 10 ∷ replicate 8 0 ++ (1 ∷ 2 ∷ replicate 6 0))
     -- Fire after 10, 9, 4; fire when 11, 9, 20, 4; get clock 11, with seven zeros; 101 for a list of two words, which stays, before 20.
     ∷ calls (replicate 18 0)
-    (layOut 1 10 ∷ fireAfter two 0 0 0 ∷ fireAfter two 1 0 0 ∷ fireAfter two 1 7 0 ∷ fireWhen two (date 1989 2 29 0 0 0) 0 0 ∷ getClock
+    (layOut 1 10 0 ∷ fireAfter 1 two 0 0 0 ∷ fireAfter 1 two 1 0 0 ∷ fireAfter 1 two 1 7 0 ∷ fireWhen 1 two (date 1989 2 29 0 0 0) 0 0 ∷ getClock
     ∷ setClock (date 1989 2 29 0 0 0) (1 ∷ 2 ∷ []) ∷ setClock (date 1989 2 29 0 0 0) three ∷ tick (1 ∷ 2 ∷ []) ∷ setClock (date 1989 3 1 0 0 0) three
-    ∷ fireWhen two (date 1989 2 29 0 0 0) 0 0 ∷ fireWhen two (date 1989 2 29 0 0 0) 7 0 ∷ fireWhen two (date 1989 3 1 0 0 0) 7 0
-    ∷ fireWhen two (date 1989 3 1 0 0 1) 7 0 ∷ getClock ∷ [])
+    ∷ fireWhen 1 two (date 1989 2 29 0 0 0) 0 0 ∷ fireWhen 1 two (date 1989 2 29 0 0 0) 7 0 ∷ fireWhen 1 two (date 1989 3 1 0 0 0) 7 0
+    ∷ fireWhen 1 two (date 1989 3 1 0 0 1) 7 0 ∷ getClock ∷ [])
     (yes 0 ∷ no 10 ∷ no 9 ∷ no 4 ∷ no 11 ∷ (11 ∷ replicate 7 0) ∷ no 101 ∷ no 20 ∷ no 101 ∷ yes 0 ∷ no 9 ∷ no 20 ∷ no 20 ∷ no 4
     ∷ (0 ∷ 1989 ∷ 3 ∷ 1 ∷ 0 ∷ 0 ∷ 0 ∷ 0 ∷ []) ∷ [])
     (unlent 6 ++ ((1 ∷ 2 ∷ []) ∷ three ∷ (1 ∷ 2 ∷ []) ∷ three ∷ unlent 5))
     (1 ∷ 10 ∷ 1 ∷ 36720000 ∷ replicate 14 0)
     -- A table that is not sound: 100 before all else.
-    ∷ calls (1 ∷ 10 ∷ 2 ∷ replicate 15 0) (create 0 ∷ fireAfter one 0 0 0 ∷ fireEvery one 0 0 0 ∷ tick [] ∷ getClock ∷ layOut 1 10 ∷ create 1 ∷ [])
+    ∷ calls (1 ∷ 10 ∷ 2 ∷ replicate 15 0) (create 1 0 ∷ fireAfter 1 one 0 0 0 ∷ fireEvery 1 one 0 0 0 ∷ tick [] ∷ getClock ∷ layOut 1 10 0 ∷ create 1 1 ∷ [])
     (no 100 ∷ no 100 ∷ no 100 ∷ no 100 ∷ (100 ∷ replicate 7 0) ∷ yes 0 ∷ yes one ∷ [])
     (unlent 7) (1 ∷ 10 ∷ replicate 8 0 ++ (1 ∷ 1 ∷ replicate 6 0))
     -- Every 2 ticks, and after the first of them once for 3 ticks: both are due at the fourth, and the other was started before the going back.
     ∷ calls (replicate 34 0)
-    (layOut 3 10 ∷ create 1 ∷ create 2 ∷ fireEvery one 2 7 70 ∷ tick nine ∷ fireAfter two 3 8 80 ∷ tick nine ∷ tick nine ∷ tick nine ∷ ticksLeft one
+    (layOut 3 10 0 ∷ create 1 1 ∷ create 1 2 ∷ fireEvery 1 one 2 7 70 ∷ tick nine ∷ fireAfter 1 two 3 8 80 ∷ tick nine ∷ tick nine ∷ tick nine ∷ ticksLeft 1 one
     ∷ tick nine ∷ tick nine ∷ [])
     (yes 0 ∷ yes one ∷ yes two ∷ yes 0 ∷ yes 0 ∷ yes 0 ∷ yes 1 ∷ yes 0 ∷ yes 2 ∷ yes 2 ∷ yes 0 ∷ yes 1 ∷ [])
     (unlent 4 ++ (nine ∷ [] ∷ (one ∷ 7 ∷ 70 ∷ replicate 6 99) ∷ nine ∷ (two ∷ 8 ∷ 80 ∷ one ∷ 7 ∷ 70 ∷ replicate 3 99) ∷ [] ∷ nine
@@ -101,15 +99,15 @@ workedCases =
     (3 ∷ 10 ∷ 0 ∷ 0 ∷ 0 ∷ 1 ∷ 0 ∷ 0 ∷ 0 ∷ 0 ∷ 6 ∷ 1 ∷ 2 ∷ 2 ∷ 7 ∷ 70 ∷ 0 ∷ 0 ∷ 2 ∷ 2 ∷ 3 ∷ 0 ∷ 8 ∷ 80 ∷ 0 ∷ 0 ∷ replicate 8 0)
     -- Fire every 10, 9, 4. Cancelled it is idle periodic; a reset starts it again as periodic, idle or waiting, counted from the reset.
     ∷ calls (replicate 18 0)
-    (layOut 1 10 ∷ create 1 ∷ fireEvery two 0 0 0 ∷ fireEvery two 3 0 0 ∷ fireEvery two 3 7 70 ∷ fireEvery one 3 7 70 ∷ tick three ∷ cancel one
-    ∷ ticksLeft one ∷ tick three ∷ reset one ∷ ticksLeft one ∷ tick three ∷ reset one ∷ tick three ∷ tick three ∷ tick three ∷ cancel one ∷ [])
+    (layOut 1 10 0 ∷ create 1 1 ∷ fireEvery 1 two 0 0 0 ∷ fireEvery 1 two 3 0 0 ∷ fireEvery 1 two 3 7 70 ∷ fireEvery 1 one 3 7 70 ∷ tick three ∷ cancel 1 one
+    ∷ ticksLeft 1 one ∷ tick three ∷ reset 1 one ∷ ticksLeft 1 one ∷ tick three ∷ reset 1 one ∷ tick three ∷ tick three ∷ tick three ∷ cancel 1 one ∷ [])
     (yes 0 ∷ yes one ∷ no 10 ∷ no 9 ∷ no 4 ∷ yes 0 ∷ yes 0 ∷ yes 0 ∷ yes 0 ∷ yes 0 ∷ yes 0 ∷ yes 3 ∷ yes 0 ∷ yes 0 ∷ yes 0 ∷ yes 0 ∷ yes 1 ∷ yes 0 ∷ [])
     (unlent 6 ++ (three ∷ [] ∷ [] ∷ three ∷ [] ∷ [] ∷ three ∷ [] ∷ three ∷ three ∷ (one ∷ 7 ∷ 70 ∷ []) ∷ [] ∷ []))
     (1 ∷ 10 ∷ replicate 8 0 ++ (7 ∷ 1 ∷ 3 ∷ 0 ∷ 7 ∷ 70 ∷ 0 ∷ 0 ∷ []))
     -- Three periodic timers of one interval keep their order; one of twice that, which waited for the second tick already, is ahead of them there.
     ∷ calls (replicate 42 0)
-    (layOut 4 10 ∷ create 1 ∷ create 2 ∷ create 3 ∷ create 4 ∷ fireEvery 0x12010004 2 4 40 ∷ fireEvery 0x12010003 1 3 30 ∷ fireEvery one 1 1 10
-    ∷ fireEvery two 1 2 20 ∷ tick (replicate 12 9) ∷ tick (replicate 12 9) ∷ [])
+    (layOut 4 10 0 ∷ create 1 1 ∷ create 1 2 ∷ create 1 3 ∷ create 1 4 ∷ fireEvery 1 0x12010004 2 4 40 ∷ fireEvery 1 0x12010003 1 3 30 ∷ fireEvery 1 one 1 1 10
+    ∷ fireEvery 1 two 1 2 20 ∷ tick (replicate 12 9) ∷ tick (replicate 12 9) ∷ [])
     (yes 0 ∷ yes one ∷ yes two ∷ yes 0x12010003 ∷ yes 0x12010004 ∷ yes 0 ∷ yes 0 ∷ yes 0 ∷ yes 0 ∷ yes 3 ∷ yes 4 ∷ [])
     (unlent 9 ++ ((0x12010003 ∷ 3 ∷ 30 ∷ one ∷ 1 ∷ 10 ∷ two ∷ 2 ∷ 20 ∷ 9 ∷ 9 ∷ 9 ∷ [])
     ∷ (0x12010004 ∷ 4 ∷ 40 ∷ 0x12010003 ∷ 3 ∷ 30 ∷ one ∷ 1 ∷ 10 ∷ two ∷ 2 ∷ 20 ∷ []) ∷ []))
@@ -123,17 +121,17 @@ workedCases =
     -- start, and after the ninth.
     ∷ calls (replicate 34 0) guarded guardedLines guardedLists
     (3 ∷ 10 ∷ 0 ∷ 0 ∷ 0 ∷ 2 ∷ 0 ∷ 0 ∷ 0 ∷ 0 ∷ 2 ∷ 1 ∷ 3 ∷ 0 ∷ 1 ∷ 10 ∷ 0 ∷ 0 ∷ 6 ∷ 2 ∷ 3 ∷ 3 ∷ 2 ∷ 20 ∷ 0 ∷ 0 ∷ 2 ∷ 3 ∷ 3 ∷ 0 ∷ 3 ∷ 30 ∷ 0 ∷ 0 ∷ [])
-    ∷ calls (replicate 34 0) (guarded ++ (fireAfter one 3 1 10 ∷ [])) (guardedLines ++ (yes 0 ∷ [])) (guardedLists ++ ([] ∷ []))
+    ∷ calls (replicate 34 0) (guarded ++ (fireAfter 1 one 3 1 10 ∷ [])) (guardedLines ++ (yes 0 ∷ [])) (guardedLists ++ ([] ∷ []))
     (3 ∷ 10 ∷ 0 ∷ 0 ∷ 0 ∷ 2 ∷ 0 ∷ 0 ∷ 0 ∷ 0 ∷ 4 ∷ 1 ∷ 3 ∷ 0 ∷ 1 ∷ 10 ∷ 0 ∷ 2 ∷ 6 ∷ 2 ∷ 3 ∷ 3 ∷ 2 ∷ 20 ∷ 1 ∷ 0 ∷ 2 ∷ 3 ∷ 3 ∷ 0 ∷ 3 ∷ 30 ∷ 0 ∷ 0 ∷ [])
-    ∷ calls (replicate 34 0) (guarded ++ (fireAfter one 3 1 10 ∷ replicate 6 (tick nine)))
+    ∷ calls (replicate 34 0) (guarded ++ (fireAfter 1 one 3 1 10 ∷ replicate 6 (tick nine)))
     (guardedLines ++ (yes 0 ∷ yes 0 ∷ yes 0 ∷ yes 2 ∷ yes 0 ∷ yes 0 ∷ yes 1 ∷ []))
     (guardedLists ++ ([] ∷ nine ∷ nine ∷ (two ∷ 2 ∷ 20 ∷ one ∷ 1 ∷ 10 ∷ replicate 3 99) ∷ nine ∷ nine ∷ (two ∷ 2 ∷ 20 ∷ replicate 6 99) ∷ []))
     (3 ∷ 10 ∷ 0 ∷ 0 ∷ 0 ∷ 2 ∷ 0 ∷ 0 ∷ 0 ∷ 0 ∷ 2 ∷ 1 ∷ 3 ∷ 0 ∷ 1 ∷ 10 ∷ 0 ∷ 0 ∷ 6 ∷ 2 ∷ 3 ∷ 3 ∷ 2 ∷ 20 ∷ 0 ∷ 0 ∷ 2 ∷ 3 ∷ 3 ∷ 0 ∷ 3 ∷ 30 ∷ 0 ∷ 0 ∷ [])
     -- Every tick.
-    ∷ calls (replicate 18 0) (layOut 1 10 ∷ create 1 ∷ fireEvery one 1 7 70 ∷ tick three ∷ tick three ∷ []) (yes 0 ∷ yes one ∷ yes 0 ∷ yes 1 ∷ yes 1 ∷ [])
+    ∷ calls (replicate 18 0) (layOut 1 10 0 ∷ create 1 1 ∷ fireEvery 1 one 1 7 70 ∷ tick three ∷ tick three ∷ []) (yes 0 ∷ yes one ∷ yes 0 ∷ yes 1 ∷ yes 1 ∷ [])
     (unlent 3 ++ ((one ∷ 7 ∷ 70 ∷ []) ∷ (one ∷ 7 ∷ 70 ∷ []) ∷ [])) (1 ∷ 10 ∷ 0 ∷ 0 ∷ 0 ∷ 1 ∷ 0 ∷ 0 ∷ 0 ∷ 0 ∷ 6 ∷ 1 ∷ 1 ∷ 1 ∷ 7 ∷ 70 ∷ 0 ∷ 0 ∷ [])
     -- Every 2 and every 3 ticks meet at the sixth, where the one that went back earlier is first.
-    ∷ calls (replicate 26 0) (layOut 2 10 ∷ create 1 ∷ create 2 ∷ fireEvery one 2 1 10 ∷ fireEvery two 3 2 20 ∷ replicate 6 (tick six))
+    ∷ calls (replicate 26 0) (layOut 2 10 0 ∷ create 1 1 ∷ create 1 2 ∷ fireEvery 1 one 2 1 10 ∷ fireEvery 1 two 3 2 20 ∷ replicate 6 (tick six))
     (yes 0 ∷ yes one ∷ yes two ∷ yes 0 ∷ yes 0 ∷ yes 0 ∷ yes 1 ∷ yes 1 ∷ yes 1 ∷ yes 0 ∷ yes 2 ∷ [])
     (unlent 5 ++ (six ∷ (one ∷ 1 ∷ 10 ∷ three) ∷ (two ∷ 2 ∷ 20 ∷ three) ∷ (one ∷ 1 ∷ 10 ∷ three) ∷ six ∷ (two ∷ 2 ∷ 20 ∷ one ∷ 1 ∷ 10 ∷ []) ∷ []))
     (2 ∷ 10 ∷ 0 ∷ 0 ∷ 0 ∷ 1 ∷ 0 ∷ 0 ∷ 0 ∷ 0 ∷ 6 ∷ 1 ∷ 2 ∷ 2 ∷ 1 ∷ 10 ∷ 2 ∷ 0 ∷ 6 ∷ 2 ∷ 3 ∷ 1 ∷ 2 ∷ 20 ∷ 0 ∷ 1 ∷ [])
@@ -158,20 +156,14 @@ worked = refl
 
 abbrev pub oneOfEach : List Call
 oneOfEach =
-    layOut 1 10 ∷ create 1 ∷ ident 1 ∷ cancel 1 ∷ delete 1 ∷ fireAfter 1 1 1 1 ∷ fireWhen 1 (date 2000 1 1 0 0 0) 1 1 ∷ reset 1 ∷ ticksLeft 1 ∷ tick []
-    ∷ setClock (date 2000 1 1 0 0 0) [] ∷ getClock ∷ fireEvery 1 1 1 1 ∷ nextDue ∷ initiateServer ∷ serverFireAfter 1 1 1 1 ∷ serverFireWhen 1 (date 2000 1 1 0 0 0) 1 1
-    ∷ serve [] ∷ leap 1 [] ∷ []
+    layOut 1 10 0 ∷ create 1 1 ∷ ident 1 1 ∷ cancel 1 1 ∷ delete 1 1 ∷ fireAfter 1 1 1 1 1 ∷ fireWhen 1 1 (date 2000 1 1 0 0 0) 1 1 ∷ reset 1 1
+    ∷ ticksLeft 1 1 ∷ tick []
+    ∷ setClock (date 2000 1 1 0 0 0) [] ∷ getClock ∷ fireEvery 1 1 1 1 1 ∷ nextDue ∷ initiateServer ∷ serverFireAfter 1 1 1 1 1
+    ∷ serverFireWhen 1 1 (date 2000 1 1 0 0 0) 1 1
+    ∷ serve 1 [] ∷ leap 1 [] ∷ []
 
 pub numbered : map callNumber oneOfEach ≡ 1 ∷ 2 ∷ 3 ∷ 4 ∷ 5 ∷ 6 ∷ 7 ∷ 8 ∷ 9 ∷ 10 ∷ 11 ∷ 12 ∷ 13 ∷ 14 ∷ 15 ∷ 16 ∷ 17 ∷ 18 ∷ 19 ∷ []
 numbered = refl
-
--- ---- the order among equals
-
--- Every 2 ticks and, a tick later, once for 3: with the second tick the first goes back, and is behind the other.
-pub turned : map (λ (g : Placed). g .begun .id)
-    (starts (oneTick ∷ changes two (some (startOf two After 3 8 80)) ∷ oneTick ∷ changes one (some (startOf one Every 2 7 70)) ∷ laidOutFor 10 ∷ []))
-    ≡ two ∷ one ∷ []
-turned = refl
 
 -- ---- the guard's nine ticks, table by table
 
@@ -188,8 +180,9 @@ abbrev slot : ℕ → ℕ → ℕ → ℕ → ℕ → List ℕ
 slot kind name wait next previous = kind ∷ name ∷ 3 ∷ wait ∷ name ∷ name * 10 ∷ next ∷ previous ∷ []
 
 -- the tables after three starts, after three ticks, after the first timer's new start, and after six ticks more
-pub guarded-tables : tables (after (replicate 34 0) (layOut 3 10 ∷ create 1 ∷ create 2 ∷ create 3 ∷ fireAfter one 3 1 10 ∷ fireEvery two 3 2 20 ∷ []))
-    (fireAfter 0x12010003 3 3 30 ∷ replicate 3 (tick nine) ++ (fireAfter one 3 1 10 ∷ replicate 6 (tick nine)))
+pub guarded-tables : tables
+    (after (replicate 34 0) (layOut 3 10 0 ∷ create 1 1 ∷ create 1 2 ∷ create 1 3 ∷ fireAfter 1 one 3 1 10 ∷ fireEvery 1 two 3 2 20 ∷ []))
+    (fireAfter 1 0x12010003 3 3 30 ∷ replicate 3 (tick nine) ++ (fireAfter 1 one 3 1 10 ∷ replicate 6 (tick nine)))
     ≡ guardedTable 1 (slot 4 1 3 2 0) (slot 6 2 0 3 1) (slot 4 3 0 0 2)
     ∷ guardedTable 1 (slot 4 1 2 2 0) (slot 6 2 0 3 1) (slot 4 3 0 0 2)
     ∷ guardedTable 1 (slot 4 1 1 2 0) (slot 6 2 0 3 1) (slot 4 3 0 0 2)

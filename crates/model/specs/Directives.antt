@@ -1,30 +1,31 @@
--- Document 01, "Status numbers" and "What each call does": for each call, in its order, when it is refused and what it does.
+-- Document 01, "Status numbers" and "What each call does", and document 02: for each call, in its order, when it is refused and what it does.
 -- Assumes nothing: these are definitions.
 use Prim.Native.Nat.{ℕ, suc, _+_, _-_, _*_, zero}
 use mathlib.Core.Bool.{Bool, true, false, cond, not, _&&_, _||_}
 use mathlib.Core.Option.{Option, none, some}
 use mathlib.Core.List.{List, [], _∷_, _++_, map}
-use lib.ListN.{length, take, drop, replicate}
+use lib.ListN.{length, take, replicate}
 use lib.IntN.{ℤ, pos, _-ℤ_}
 use lib.Dec.{leb, ltb, eqb}
 use Rattle.calendar.specs.declared.WallTime.{WallTime}
 use Rattle.calendar.specs.Calendar.{allOf, valid, secondsOf, lastSecond, dateOf}
-use Rattle.model.specs.Lists.{keep, place}
+use Rattle.model.specs.Lists.{keep, dropFirst, place}
 use Rattle.model.specs.Status.{Refusal, when, InvalidName, InvalidId, TooMany, InvalidSize, InvalidAddress, InvalidNumber, NotDefined, IncorrectState, InvalidClock, NotSound, ListTooShort}
 use Rattle.model.specs.Calls.{Call, layOut, create, ident, cancel, delete, fireAfter, fireWhen, fireEvery, reset, ticksLeft, tick, setClock, getClock, nextDue, initiateServer, serverFireAfter, serverFireWhen, serve, leap}
 use Rattle.model.specs.Kinds.{Chain, ByTicks, ByDate, Queue, Mode, After, When, Every, ServerAfter, ServerWhen, kindAt, chainFor, waitingKind, intervalIn, waitsIn, linked, lastByTicks, forServer, lastMode}
+use Rattle.model.specs.Parties.{owns, isParty}
 use Rattle.model.specs.Words.{slotCount, firstTicking, kindOf, waitOf}
 use Rattle.model.specs.Sound.{sound}
-use Rattle.model.specs.State.{Slot, Link, Clock, State, chainOf, withChain, withClock, free, slotAt, putAt, lowest, without, waitAt, idBase, indexOf, names}
+use Rattle.model.specs.State.{Slot, Link, Clock, State, chainOf, withChain, withClock, free, slotAt, putAt, lowest, without, waitAt, idBase, indexOf, namesOwn}
 
 -- ---- what the rules test
 
--- the lowest free slot; the lowest slot with that name, which is not 0: a slot is 0 where there is none
-abbrev pub lowestFree : State → ℕ
-lowestFree s = lowest (λ x. eqb (x .kind) 0) 1 (s .slots)
+-- Create and ident look only in the caller's slots: the lowest free one; the lowest with that name, which is not 0. A slot is 0 where there is none.
+abbrev pub lowestFree : State → ℕ → ℕ
+lowestFree s party = lowest (λ i x. owns (s .split) party i && eqb (x .kind) 0) 1 (s .slots)
 
-abbrev pub lowestNamed : State → ℕ → ℕ
-lowestNamed s name = lowest (λ x. eqb (x .name) name) 1 (s .slots)
+abbrev pub lowestNamed : State → ℕ → ℕ → ℕ
+lowestNamed s party name = lowest (λ i x. owns (s .split) party i && eqb (x .name) name) 1 (s .slots)
 
 -- the list is shorter than 3N words; the date is not valid, or not after the present second; it is not valid, or its ticks are T or more
 abbrev pub isShort : State → List ℕ → Bool
@@ -40,16 +41,19 @@ notSettable s w = not (valid w && ltb (w .ticks) (s .clock .perSecond))
 abbrev pub mostLeap : ℕ
 mostLeap = 1000000
 
--- N is 1 to 255 and T 1 to 1,000
-abbrev pub limits : ℕ → ℕ → List Bool
-limits n t = leb 1 n ∷ leb n 255 ∷ leb 1 t ∷ leb t 1000 ∷ []
+-- N is 1 to 255, T 1 to 1,000, and L 0 or 1 to N - 1
+abbrev pub limits : ℕ → ℕ → ℕ → List Bool
+limits n t split = leb 1 n ∷ leb n 255 ∷ leb 1 t ∷ leb t 1000 ∷ ltb split n ∷ []
 
--- Any call but lay out: table not sound. The id names no timer.
+-- Any call but lay out: table not sound. A party number other than 1 or 2, or 2 when L is 0. The id names no timer in the caller's slots.
 abbrev pub unsound : List ℕ → Refusal
 unsound t = when NotSound (not (sound t))
 
-abbrev pub noSuchId : State → ℕ → Refusal
-noSuchId s id = when InvalidId (not (names s id))
+abbrev pub noParty : State → ℕ → Refusal
+noParty s party = when InvalidId (not (isParty (s .split) party))
+
+abbrev pub noSuchId : State → ℕ → ℕ → Refusal
+noSuchId s party id = when InvalidId (not (namesOwn s party id))
 
 -- Initiate a second time since the lay out, or another call of the server before it.
 abbrev pub alreadyInitiated : State → Refusal
@@ -63,12 +67,12 @@ abbrev pub nothingToCancel : State → ℕ → Refusal
 nothingToCancel s id = when IncorrectState (not (linked (slotAt (s .slots) (indexOf id) .kind)))
 
 -- the rules of a start for ticks: 10, 9, 4; and of one for a date: 11, 9, 20, 4
-abbrev pub startRules : State → ℕ → ℕ → ℕ → List Refusal
-startRules s id n r = when InvalidNumber (eqb n 0) ∷ when InvalidAddress (eqb r 0) ∷ noSuchId s id ∷ []
+abbrev pub startRules : State → ℕ → ℕ → ℕ → ℕ → List Refusal
+startRules s party id n r = when InvalidNumber (eqb n 0) ∷ when InvalidAddress (eqb r 0) ∷ noSuchId s party id ∷ []
 
-abbrev pub dateRules : State → ℕ → WallTime → ℕ → List Refusal
-dateRules s id d r =
-    when NotDefined (not (s .clock .isSet)) ∷ when InvalidAddress (eqb r 0) ∷ when InvalidClock (notAhead s d) ∷ noSuchId s id ∷ []
+abbrev pub dateRules : State → ℕ → ℕ → WallTime → ℕ → List Refusal
+dateRules s party id d r =
+    when NotDefined (not (s .clock .isSet)) ∷ when InvalidAddress (eqb r 0) ∷ when InvalidClock (notAhead s d) ∷ noSuchId s party id ∷ []
 
 -- ---- next due, which reads only the header and one slot
 
@@ -89,10 +93,10 @@ firstWait w = cond (eqb (firstTicking w) 0) 0 (waitOf w (firstTicking w))
 -- ---- the parts of the calls' work
 
 -- Lay out: header as given, clock not set, server not initiated, all slots free.
-abbrev pub laidOut : ℕ → ℕ → State
-laidOut n t =
+abbrev pub laidOut : ℕ → ℕ → ℕ → State
+laidOut n t split =
     let clock : Clock = record { perSecond = t; isSet = false; second = 0; ticksInto = 0 } in
-    record { slots = replicate n free; clock = clock; ticking = []; dated = []; server = false; queue = [] }
+    record { slots = replicate n free; clock = clock; ticking = []; dated = []; split = split; server = false; queue = [] }
 
 -- slot i, in no chain, becomes x
 abbrev pub stored : State → ℕ → Slot → State
@@ -168,16 +172,19 @@ fire k limit s = goOn (due k limit s) (off k limit s)
 abbrev pub withoutServer : List Slot → List Link → List Link
 withoutServer slots ws = keep (λ w. not (forServer (kindAt (slotAt slots (w .slot) .kind) .last))) ws
 
--- Serve: the front of the queue, if there is one, becomes idle.
-abbrev pub front : State → List Link
-front s = take 1 (s .queue)
+-- Serve: the caller's first queued timer, if there is one, becomes idle.
+abbrev pub isOwn : State → ℕ → Link → Bool
+isOwn s party w = owns (s .split) party (w .slot)
 
-abbrev pub handedOut : State → State
-handedOut s = withChain Queue s (firedAll (front s) (s .slots)) (drop 1 (s .queue))
+abbrev pub front : State → ℕ → List Link
+front s party = take 1 (keep (isOwn s party) (s .queue))
+
+abbrev pub handedOut : State → ℕ → State
+handedOut s party = withChain Queue s (firedAll (front s party) (s .slots)) (dropFirst (isOwn s party) (s .queue))
 
 -- Initiate server: word 8 is 1.
 abbrev pub initiated : State → State
-initiated s = record { slots = s .slots; clock = s .clock; ticking = s .ticking; dated = s .dated; server = true; queue = s .queue }
+initiated s = record { slots = s .slots; clock = s .clock; ticking = s .ticking; dated = s .dated; split = s .split; server = true; queue = s .queue }
 
 -- Tick: every interval timer comes one tick nearer.
 abbrev pub closer : Link → Link
@@ -279,53 +286,53 @@ pub record Directive : Type 0 where
 
 abbrev pub directive : Call → Directive
 -- 10, 8
-directive (layOut n t) = record {
-  rules = λ w s. when InvalidNumber (not (allOf (limits n t))) ∷ when InvalidSize (ltb (length w) (10 + 8 * n)) ∷ [];
-  does = λ w s. leaves (laidOut n t) 0;
+directive (layOut n t split) = record {
+  rules = λ w s. when InvalidNumber (not (allOf (limits n t split))) ∷ when InvalidSize (ltb (length w) (10 + 8 * n)) ∷ [];
+  does = λ w s. leaves (laidOut n t split) 0;
 }
--- Answers the id of the lowest free slot, which becomes kind 1. 3, 5
-directive (create name) = record {
-  rules = λ w s. unsound w ∷ when InvalidName (eqb name 0) ∷ when TooMany (eqb (lowestFree s) 0) ∷ [];
-  does = λ w s. leaves (stored s (lowestFree s) (neverStarted name)) (idBase + lowestFree s);
+-- Answers the id of the caller's lowest free slot, which becomes kind 1. 3, 5; before these, as in every call of a party, 4 for a wrong party
+directive (create party name) = record {
+  rules = λ w s. unsound w ∷ noParty s party ∷ when InvalidName (eqb name 0) ∷ when TooMany (eqb (lowestFree s party) 0) ∷ [];
+  does = λ w s. leaves (stored s (lowestFree s party) (neverStarted name)) (idBase + lowestFree s party);
 }
--- Id of the lowest slot with that name. 3
-directive (ident name) = record {
-  rules = λ w s. unsound w ∷ when InvalidName (eqb name 0) ∷ when InvalidName (eqb (lowestNamed s name) 0) ∷ [];
-  does = λ w s. leaves s (idBase + lowestNamed s name);
+-- Id of the caller's lowest slot with that name. 3
+directive (ident party name) = record {
+  rules = λ w s. unsound w ∷ noParty s party ∷ when InvalidName (eqb name 0) ∷ when InvalidName (eqb (lowestNamed s party name) 0) ∷ [];
+  does = λ w s. leaves s (idBase + lowestNamed s party name);
 }
 -- Cancel of a timer that is neither waiting nor queued: 14, after 4.
-directive (cancel id) = record {
-  rules = λ w s. unsound w ∷ noSuchId s id ∷ nothingToCancel s id ∷ [];
+directive (cancel party id) = record {
+  rules = λ w s. unsound w ∷ noParty s party ∷ noSuchId s party id ∷ nothingToCancel s id ∷ [];
   does = λ w s. leaves (stopped s (indexOf id) (idled (slotAt (s .slots) (indexOf id)))) 0;
 }
 -- Cancelled if waiting or queued, then the slot is free and all zero.
-directive (delete id) = record {
-  rules = λ w s. unsound w ∷ noSuchId s id ∷ [];
+directive (delete party id) = record {
+  rules = λ w s. unsound w ∷ noParty s party ∷ noSuchId s party id ∷ [];
   does = λ w s. leaves (stopped s (indexOf id) free) 0;
 }
-directive (fireAfter id n r u) = record {
-  rules = λ w s. unsound w ∷ startRules s id n r;
+directive (fireAfter party id n r u) = record {
+  rules = λ w s. unsound w ∷ noParty s party ∷ startRules s party id n r;
   does = λ w s. leaves (started After s (indexOf id) n r u) 0;
 }
-directive (fireWhen id d r u) = record {
-  rules = λ w s. unsound w ∷ dateRules s id d r;
+directive (fireWhen party id d r u) = record {
+  rules = λ w s. unsound w ∷ noParty s party ∷ dateRules s party id d r;
   does = λ w s. leaves (started When s (indexOf id) (secondsOf d) r u) 0;
 }
 -- Like fire after, but the timer fires every n ticks.
-directive (fireEvery id n r u) = record {
-  rules = λ w s. unsound w ∷ startRules s id n r;
+directive (fireEvery party id n r u) = record {
+  rules = λ w s. unsound w ∷ noParty s party ∷ startRules s party id n r;
   does = λ w s. leaves (started Every s (indexOf id) n r u) 0;
 }
 -- Start again with the stored interval, routine and data, as it was last started. 4, 11
-directive (reset id) = record {
-  rules = λ w s. unsound w ∷ noSuchId s id ∷ when NotDefined (not (lastByTicks (slotAt (s .slots) (indexOf id) .kind))) ∷ [];
+directive (reset party id) = record {
+  rules = λ w s. unsound w ∷ noParty s party ∷ noSuchId s party id ∷ when NotDefined (not (lastByTicks (slotAt (s .slots) (indexOf id) .kind))) ∷ [];
   does = λ w s.
       let x = slotAt (s .slots) (indexOf id) in
       leaves (started (lastMode (x .kind)) s (indexOf id) (x .interval) (x .routine) (x .userData)) 0;
 }
 -- For kinds 4, 6 and 10, which alone are in the interval chain; for any other kind 0.
-directive (ticksLeft id) = record {
-  rules = λ w s. unsound w ∷ noSuchId s id ∷ [];
+directive (ticksLeft party id) = record {
+  rules = λ w s. unsound w ∷ noParty s party ∷ noSuchId s party id ∷ [];
   does = λ w s. leaves s (waitAt (indexOf id) (s .ticking));
 }
 directive (tick list) = record {
@@ -350,18 +357,18 @@ directive initiateServer = record {
   does = λ w s. leaves (initiated s) 0;
 }
 -- They take arguments and refuse as fire after and fire when do.
-directive (serverFireAfter id n r u) = record {
-  rules = λ w s. unsound w ∷ notInitiated s ∷ startRules s id n r;
+directive (serverFireAfter party id n r u) = record {
+  rules = λ w s. unsound w ∷ noParty s party ∷ notInitiated s ∷ startRules s party id n r;
   does = λ w s. leaves (started ServerAfter s (indexOf id) n r u) 0;
 }
-directive (serverFireWhen id d r u) = record {
-  rules = λ w s. unsound w ∷ notInitiated s ∷ dateRules s id d r;
+directive (serverFireWhen party id d r u) = record {
+  rules = λ w s. unsound w ∷ noParty s party ∷ notInitiated s ∷ dateRules s party id d r;
   does = λ w s. leaves (started ServerWhen s (indexOf id) (secondsOf d) r u) 0;
 }
--- Needs three words of list. Hands out the front's three words and answers 1, or 0 if the queue is empty.
-directive (serve list) = record {
-  rules = λ w s. unsound w ∷ when ListTooShort (ltb (length list) 3) ∷ notInitiated s ∷ [];
-  does = λ w s. firing (handedOut s) (front s);
+-- Needs three words of list. Hands out the three words of the caller's first queued timer and answers 1, or 0 if there is none.
+directive (serve party list) = record {
+  rules = λ w s. unsound w ∷ when ListTooShort (ltb (length list) 3) ∷ noParty s party ∷ notInitiated s ∷ [];
+  does = λ w s. firing (handedOut s party) (front s party);
 }
 -- More than 1,000,000 is 10, after 100 and, whatever k, tick's 101.
 directive (leap k list) = record {

@@ -2,12 +2,13 @@ pub mod Lists
 pub mod Status
 pub mod Calls
 pub mod Kinds
+pub mod Parties
 pub mod State
 pub mod Words
 pub mod Sound
 pub mod Directives
 pub mod Outcome
-pub mod History
-pub mod Demand
+pub mod Entries
+pub mod Statuses
 pub mod NextDue
 pub mod Leap

@@ -40,6 +40,11 @@ module _ {A : Type 0} where
   count p [] = zero
   count p (x ∷ xs) = cond (p x) (suc (count p xs)) (count p xs)
 
+  -- all elements but the first that passes the test
+  abbrev pub dropFirst : (A → Bool) → List A → List A
+  dropFirst p [] = []
+  dropFirst p (x ∷ xs) = cond (p x) xs (x ∷ dropFirst p xs)
+
   -- x goes behind every element whose number is not greater than its own
   abbrev pub place : (A → ℕ) → A → List A → List A
   place key x [] = x ∷ []

@@ -8,11 +8,11 @@ use lib.ListN.{length}
 use Rattle.model.specs.Lists.{keep, least}
 use Rattle.model.specs.Calls.{ticksLeft, nextDue}
 use Rattle.model.specs.Kinds.{ByTicks, waitsIn}
+use Rattle.model.specs.Parties.{ownerOf}
 use Rattle.model.specs.State.{idBase}
-use Rattle.model.specs.Words.{slotCount, firstTicking, kindOf, waitOf}
+use Rattle.model.specs.Words.{slotCount, firstTicking, partySplit, kindOf, waitOf}
 use Rattle.model.specs.Sound.{sound}
-use Rattle.model.specs.Outcome.{outcomeOf, outcome}
-use Rattle.model.specs.Demand.{firstNumber}
+use Rattle.model.specs.Outcome.{outcomeOf, outcome, firstNumber}
 
 -- n slots from i on
 abbrev pub slotsUp : ℕ → ℕ → List ℕ
@@ -23,9 +23,9 @@ slotsUp i (suc n) = i ∷ slotsUp (suc i) n
 abbrev pub waitingForTicks : List ℕ → List ℕ
 waitingForTicks t = keep (λ i. waitsIn ByTicks (kindOf t i)) (slotsUp 1 (slotCount t))
 
--- what ticks left answers for the timer of slot i
+-- what ticks left answers the party that has slot i, for its timer
 abbrev pub ticksLeftOf : List ℕ → ℕ → ℕ
-ticksLeftOf t i = firstNumber (outcome t (ticksLeft (idBase + i)) .answer)
+ticksLeftOf t i = firstNumber (outcome t (ticksLeft (ownerOf (partySplit t) i) (idBase + i)) .answer)
 
 abbrev pub NextDueIsLeast : Type 0
 NextDueIsLeast = (t : List ℕ) → sound t ≡ true → outcome t nextDue ≡ outcomeOf 0 (least (map (ticksLeftOf t) (waitingForTicks t)) ∷ []) t []

@@ -3,7 +3,7 @@
 use Prim.Native.Nat.{ℕ}
 use mathlib.Core.Bool.{cond}
 use mathlib.Core.List.{List, [], _∷_, _++_, map}
-use lib.ListN.{length, take, drop, replicate}
+use lib.ListN.{length, getD, drop, replicate}
 use lib.IntN.{ℤ, pos}
 use lib.Dec.{eqb}
 use Rattle.model.specs.Status.{firstOf}
@@ -55,3 +55,16 @@ outcome t c = cond (eqb (statusOn t c) 0) (accepted t c) (refused (statusOn t c)
 abbrev pub movement : List ℕ → WallTime → List ℕ → ℤ
 movement t w list =
     let old = read t .clock in cond (eqb (statusOn t (setClock w list)) 0) (movedBy old (clockAt old (secondsOf w) (w .ticks))) (pos 0)
+
+-- the first number of an answer
+abbrev pub firstNumber : List ℕ → ℕ
+firstNumber answer = getD answer 0 0
+
+-- the ticks that a leap answers to have done
+abbrev pub ticksDone : List ℕ → ℕ
+ticksDone answer = getD answer 1 0
+
+-- Each call gets the table that the last one left.
+abbrev pub after : List ℕ → List Call → List ℕ
+after t [] = t
+after t (c ∷ cs) = after (outcome t c .table) cs

@@ -1,4 +1,5 @@
--- Document 01, "A table is sound when all of this holds", a definition for each bullet, and document 02, items 1 and 5. Assumes nothing: these are definitions.
+-- Document 01, "A table is sound when all of this holds", a definition for each bullet, and document 02, items 1, 5 and 10. Assumes nothing: these are
+-- definitions.
 use Prim.Native.Nat.{ℕ, suc, _+_, _*_}
 use mathlib.Core.Bool.{Bool, true, cond, not, _&&_, _||_}
 use mathlib.Core.List.{List, [], _∷_}
@@ -8,14 +9,15 @@ use Rattle.model.specs.Lists.{count, every, allUp}
 use Rattle.model.specs.Kinds.{Chain, ByTicks, ByDate, Queue, linked, waitsIn, lastByTicks}
 use Rattle.model.specs.State.{Link}
 use Rattle.calendar.specs.Calendar.{allOf, lastSecond}
-use Rattle.model.specs.Words.{word, headWord, along, links, slotCount, ticksPerSecond, clockSet, seconds, ticksInto, firstDated, serverInitiated, kindOf, nameOf, intervalOf, waitOf, routineOf, dataOf, nextOf, previousOf}
+use Rattle.model.specs.Words.{word, headWord, along, links, slotCount, ticksPerSecond, clockSet, seconds, ticksInto, firstDated, partySplit, serverInitiated, kindOf, nameOf, intervalOf, waitOf, routineOf, dataOf, nextOf, previousOf}
 
--- The slice has 10 + 8N words or more and the header is as above, word 7 zero, word 8 0 or 1. If the clock is not set, words 3, 4 and 6 are zero.
+-- The slice has 10 + 8N words or more and the header is as above, word 7 0 to N - 1, word 8 0 or 1. If the clock is not set, words 3, 4 and 6 are
+-- zero.
 abbrev pub headerTests : List ℕ → List Bool
 headerTests t =
     leb 1 (slotCount t) ∷ leb (slotCount t) 255 ∷ leb (10 + 8 * slotCount t) (length t)
     ∷ leb 1 (ticksPerSecond t) ∷ leb (ticksPerSecond t) 1000 ∷ leb (clockSet t) 1 ∷ leb (seconds t) lastSecond ∷ ltb (ticksInto t) (ticksPerSecond t)
-    ∷ eqb (word t 7) 0 ∷ leb (serverInitiated t) 1
+    ∷ ltb (partySplit t) (slotCount t) ∷ leb (serverInitiated t) 1
     ∷ (eqb (clockSet t) 1 || allOf (eqb (seconds t) 0 ∷ eqb (ticksInto t) 0 ∷ eqb (firstDated t) 0 ∷ [])) ∷ []
 
 unfoldable pub headerSound : List ℕ → Bool

@@ -1,13 +1,14 @@
 -- The table without its links: slots, clock, and the chains as lists in firing order, with ticks left or dates; the queue, where they are 0.
 -- Assumes nothing: these are definitions.
 use Prim.Native.Nat.{ℕ, zero, suc, _+_, _-_}
-use mathlib.Core.Bool.{Bool, cond, not}
+use mathlib.Core.Bool.{Bool, cond, not, _&&_}
 use mathlib.Core.List.{List, [], _∷_}
 use lib.ListN.{length, getD, set}
 use lib.Dec.{leb, ltb, eqb}
 use Rattle.calendar.specs.Calendar.{allOf}
 use Rattle.model.specs.Lists.{keep}
 use Rattle.model.specs.Kinds.{Chain, ByTicks, ByDate, Queue}
+use Rattle.model.specs.Parties.{owns}
 
 -- the words of a slot but for its wait and links
 pub record Slot : Type 0 where
@@ -29,12 +30,13 @@ pub record Clock : Type 0 where
   pub second : ℕ
   pub ticksInto : ℕ
 
--- `server` says whether the timer server was initiated
+-- `split` is L; `server` says whether the timer server was initiated
 pub record State : Type 0 where
   pub slots : List Slot
   pub clock : Clock
   pub ticking : List Link
   pub dated : List Link
+  pub split : ℕ
   pub server : Bool
   pub queue : List Link
 
@@ -47,15 +49,15 @@ chainOf Queue s = s .queue
 -- the state with other slots and another chain; with another clock
 abbrev pub withChain : Chain → State → List Slot → List Link → State
 withChain ByTicks s slots links =
-    record { slots = slots; clock = s .clock; ticking = links; dated = s .dated; server = s .server; queue = s .queue }
+    record { slots = slots; clock = s .clock; ticking = links; dated = s .dated; split = s .split; server = s .server; queue = s .queue }
 withChain ByDate s slots links =
-    record { slots = slots; clock = s .clock; ticking = s .ticking; dated = links; server = s .server; queue = s .queue }
+    record { slots = slots; clock = s .clock; ticking = s .ticking; dated = links; split = s .split; server = s .server; queue = s .queue }
 withChain Queue s slots links =
-    record { slots = slots; clock = s .clock; ticking = s .ticking; dated = s .dated; server = s .server; queue = links }
+    record { slots = slots; clock = s .clock; ticking = s .ticking; dated = s .dated; split = s .split; server = s .server; queue = links }
 
 abbrev pub withClock : State → Clock → State
 withClock s clock =
-    record { slots = s .slots; clock = clock; ticking = s .ticking; dated = s .dated; server = s .server; queue = s .queue }
+    record { slots = s .slots; clock = clock; ticking = s .ticking; dated = s .dated; split = s .split; server = s .server; queue = s .queue }
 
 -- Kind 0: every other word zero.
 abbrev pub free : Slot
@@ -70,10 +72,10 @@ abbrev pub putAt : List Slot → ℕ → Slot → List Slot
 putAt slots zero x = slots
 putAt slots (suc i) x = set slots i x
 
--- the lowest slot, counted from i, that passes the test; 0 if there is none
-abbrev pub lowest : (Slot → Bool) → ℕ → List Slot → ℕ
+-- the lowest slot, counted from i, that passes the test of its index and its words; 0 if there is none
+abbrev pub lowest : (ℕ → Slot → Bool) → ℕ → List Slot → ℕ
 lowest p i [] = 0
-lowest p i (x ∷ xs) = cond (p x) i (lowest p (suc i) xs)
+lowest p i (x ∷ xs) = cond (p i x) i (lowest p (suc i) xs)
 
 -- a chain without the slot i
 abbrev pub without : ℕ → List Link → List Link
@@ -94,6 +96,10 @@ indexOf id = id - idBase
 -- An id names a timer when the index is 1 to N and the slot is not free. Ids are used again after a delete; a stale id then names the new timer.
 abbrev pub names : State → ℕ → Bool
 names s id = allOf (ltb idBase id ∷ leb (indexOf id) (length (s .slots)) ∷ not (eqb (slotAt (s .slots) (indexOf id) .kind) 0) ∷ [])
+
+-- it names one of the party's own timers
+abbrev pub namesOwn : State → ℕ → ℕ → Bool
+namesOwn s party id = names s id && owns (s .split) party (indexOf id)
 
 -- an entry of the fired list: id, routine, user data
 pub record Fired : Type 0 where

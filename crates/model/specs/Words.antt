@@ -2,7 +2,7 @@
 --
 --   word 0 slot count N          word 5 first slot of the interval chain     slot i, from 1, is the eight words from 2 + 8i on:
 --   word 1 ticks in a second T   word 6 first slot of the dated chain        0 kind      1 name     2 interval   3 wait
---   word 2 clock set, 0 or 1     word 7 zero                                 4 routine   5 data     6 next       7 previous
+--   word 2 clock set, 0 or 1     word 7 last slot L of party 1, or 0         4 routine   5 data     6 next       7 previous
 --   word 3 seconds               word 8 server initiated, 0 or 1             link 0 means none; words past 10 + 8N are not the table's
 --   word 4 ticks into the second word 9 first slot of the queue
 --
@@ -58,7 +58,7 @@ allSlots s i (x ∷ xs) rest = slotWords s i x (allSlots s (suc i) xs rest)
 abbrev pub write : State → List ℕ → List ℕ
 write s rest =
     length (s .slots) ∷ s .clock .perSecond ∷ cond (s .clock .isSet) 1 0 ∷ s .clock .second ∷ s .clock .ticksInto
-    ∷ first (s .ticking) ∷ first (s .dated) ∷ 0 ∷ cond (s .server) 1 0 ∷ first (s .queue) ∷ allSlots s 1 (s .slots) rest
+    ∷ first (s .ticking) ∷ first (s .dated) ∷ s .split ∷ cond (s .server) 1 0 ∷ first (s .queue) ∷ allSlots s 1 (s .slots) rest
 
 -- the words of a state at the front of a slice. Words past 10 + 8N are never changed.
 abbrev pub writtenOver : State → List ℕ → List ℕ
@@ -94,6 +94,9 @@ firstTicking t = getD t 5 0
 
 abbrev pub firstDated : List ℕ → ℕ
 firstDated t = getD t 6 0
+
+abbrev pub partySplit : List ℕ → ℕ
+partySplit t = getD t 7 0
 
 abbrev pub serverInitiated : List ℕ → ℕ
 serverInitiated t = getD t 8 0
@@ -173,6 +176,7 @@ read t =
       clock = clock;
       ticking = links ByTicks t;
       dated = links ByDate t;
+      split = partySplit t;
       server = eqb (serverInitiated t) 1;
       queue = links Queue t;
     }

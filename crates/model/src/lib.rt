@@ -1,5 +1,5 @@
-// The timer manager as definitions, and demand 3 proved about them: see specs/ and proofs/. No function is here, only the types that
-// the definitions share with the code.
+// The timer manager as definitions, with cases that are computed from them: see specs/ and proofs/. Laws of them are in crate `laws`. No function is
+// here, only the types that the definitions share with the code.
 
 // The chain of the timers that wait for ticks, of those that wait for a date, and of those that wait to be served.
 pub enum Chain {

@@ -15,7 +15,7 @@ use Rattle.model.specs.Calls.{nextDue}
 use Rattle.model.specs.Words.{slotCount, firstTicking, kindOf, waitOf}
 use Rattle.model.specs.Directives.{firstTests, firstWait}
 use Rattle.model.specs.Outcome.{outcomeOf, outcome}
-use Rattle.model.proofs.ListLaws.{cases, clash, or-right, all-at, all-true}
+use Rattle.laws.proofs.ListLaws.{cases, clash, or-right, all-at, all-true}
 use Rattle.answers.proofs.Replies.{refuses, done}
 
 -- a test of the list fails

@@ -1,1 +1,2 @@
+pub mod Parties
 pub mod Ids

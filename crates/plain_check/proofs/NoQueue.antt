@@ -10,7 +10,7 @@ use borrow.Author.Tests.{eqb-true, eqb-false, ne-eqb}
 use Rattle.model.specs.declared.Chain.the-variants.{Queue}
 use Rattle.model.specs.Words.{slotCount, serverInitiated, firstQueued, kindOf}
 use Rattle.model.specs.Sound.{slotSound, soundTests, sound}
-use Rattle.model.proofs.ListLaws.{cases, clash, all-at, up-at}
+use Rattle.laws.proofs.ListLaws.{cases, clash, all-at, up-at}
 use Rattle.word_checks.proofs.SlotTests.{sound-tested}
 use Rattle.walks.proofs.OnePass.{first-slot}
 use Rattle.plain_check.proofs.PlainKinds.{plain-kind, plain-queued}

@@ -10,7 +10,7 @@ use borrow.Author.Tests.{ltb-true, ne-eqb}
 use Rattle.model.specs.declared.Chain.the-variants.{ByTicks, ByDate, Queue}
 use Rattle.model.specs.Kinds.{waitsIn}
 use Rattle.model.specs.Words.{kindOf}
-use Rattle.model.proofs.ListLaws.{all-at}
+use Rattle.laws.proofs.ListLaws.{all-at}
 use Rattle.table.proofs.KindTests.{ticking-is, dated-is, queued-is}
 use Rattle.word_checks.specs.Tested.{slotTestsMade, slotTested}
 

@@ -10,7 +10,7 @@ use lib.Dec.{leb, ltb, eqb}
 use lib.ListN.{length}
 use borrow.Author.Tests.{ltb-true, ltb-false, leb-true, leb-false, le-leb, eq-eqb}
 use Rattle.model.specs.Lists.{every, count, All}
-use Rattle.model.proofs.ListLaws.{cases, both, and-both, all-map}
+use Rattle.laws.proofs.ListLaws.{cases, both, and-both, all-map}
 use Rattle.plans.specs.declared.Job.{Job}
 use Rattle.plans.specs.declared.Booking.{Booking}
 use Rattle.plans.specs.Plans.{book, booked, endsBy, clearOf, apart, accepts}

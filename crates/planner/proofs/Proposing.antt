@@ -9,7 +9,7 @@ use lib.Dec.{eqb}
 use lib.ListN.{length, getD, set, take, drop, length-set, length-append, length-drop, replicate, getD-replicate, drop-of-length-le}
 use lib.Seq.{getD-set-same, getD-set-other, take-suc, take-suc-set, take-length, length-take-le, drop-cons, append-snoc, set-at}
 use borrow.Author.Tests.{eqb-true, eqb-false}
-use Rattle.model.proofs.ListLaws.{cases}
+use Rattle.laws.proofs.ListLaws.{cases}
 use Rattle.plans.specs.declared.Job.{Job}
 use Rattle.plans.specs.Plans.{jobsOf}
 use Rattle.plans.specs.Parts.{jobAt}

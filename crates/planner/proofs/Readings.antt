@@ -10,7 +10,7 @@ use lib.ListN.{length, getD, drop}
 use lib.Seq.{getD-append-add, getD-drop}
 use borrow.Author.Tests.{eqb-true, eqb-false, leb-true, leb-false}
 use Rattle.model.specs.Lists.{every}
-use Rattle.model.proofs.ListLaws.{cases, both}
+use Rattle.laws.proofs.ListLaws.{cases, both}
 use Rattle.plans.specs.declared.Job.{Job}
 use Rattle.plans.specs.Plans.{jobsOf, jobWithin, withinLimits}
 use Rattle.plans.specs.Checker.{checked}

@@ -8,7 +8,7 @@ use lib.Dec.{ltb, eqb}
 use lib.ListN.{length, take, drop}
 use lib.Seq.{take-at}
 use borrow.Author.Tests.{eqb-true, eqb-false, eq-eqb, ne-eqb, le-ltb, lt-ltb, ltb-true, ltb-false}
-use Rattle.model.proofs.ListLaws.{cases}
+use Rattle.laws.proofs.ListLaws.{cases}
 use Rattle.plans.specs.Plans.{jobsOf, withinLimits}
 use Rattle.plans.specs.Checker.{checked}
 use Rattle.plans.proofs.Verdicts.{accepted, good}

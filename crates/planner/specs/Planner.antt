@@ -1,4 +1,4 @@
--- Request 13, packing the break: what the planner answers and what it leaves in the list that it is lent, for all inputs. Assumes nothing: these are
+-- Document 02, item 13, packing the break: what the planner answers and what it leaves in the list that it is lent, for all inputs. Assumes nothing: these are
 -- definitions.
 use Prim.Native.Nat.{ℕ, _≤_}
 use mathlib.Core.Bool.{true, cond, not}

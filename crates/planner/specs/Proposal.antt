@@ -1,4 +1,4 @@
--- Request 13, packing the break: the plan that the planner proposes. The request leaves the plan free; ours is back to back. Assumes nothing: these
+-- Document 02, item 13, packing the break: the plan that the planner proposes. The request leaves the plan free; ours is back to back. Assumes nothing: these
 -- are definitions.
 use Prim.Native.Nat.{ℕ, _+_}
 use mathlib.Core.Bool.{cond}

@@ -11,7 +11,7 @@ use lib.ListN.{length, getD, set}
 use lib.Seq.{getD-set-same, getD-set-other}
 use borrow.Author.Tests.{eqb-true, eqb-false}
 use Rattle.model.specs.Lists.{All, every}
-use Rattle.model.proofs.ListLaws.{cases, both, and-both, all-map}
+use Rattle.laws.proofs.ListLaws.{cases, both, and-both, all-map}
 use Rattle.plans.specs.declared.Booking.{Booking}
 use Rattle.plans.specs.Plans.{jobsOf, booked, endsBy, clearOf, apart, accepts}
 use Rattle.plans.specs.Parts.{bookedAt, bookedFrom}

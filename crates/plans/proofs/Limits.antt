@@ -10,7 +10,7 @@ use lib.ListN.{length, getD, drop, drop-of-length-le}
 use lib.Seq.{drop-cons}
 use borrow.Author.Tests.{leb-true, le-leb, eqb-true, eq-eqb}
 use Rattle.model.specs.Lists.{every}
-use Rattle.model.proofs.ListLaws.{cases, both, and-both, all-at}
+use Rattle.laws.proofs.ListLaws.{cases, both, and-both, all-at}
 use Rattle.plans.specs.declared.Job.{Job}
 use Rattle.plans.specs.Plans.{jobsOf, jobWithin, jobsWithin, withinLimits}
 use Rattle.plans.specs.Parts.{jobAt}

@@ -6,7 +6,7 @@ use mathlib.Core.Bool.{true}
 use mathlib.Core.List.{[], _∷_}
 use lib.Dec.{leb, ltb, eqb}
 use borrow.Author.Tests.{leb-true, leb-false, ltb-true, lt-ltb, eqb-true, eq-eqb, not-true}
-use Rattle.model.proofs.ListLaws.{cases, clash, all-true, all-at}
+use Rattle.laws.proofs.ListLaws.{cases, clash, all-true, all-at}
 use Rattle.plans.specs.declared.Booking.{Booking}
 use Rattle.plans.specs.Plans.{overlap, clearOf}
 

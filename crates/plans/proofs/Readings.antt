@@ -9,7 +9,7 @@ use lib.Dec.{leb}
 use lib.ListN.{length, getD}
 use borrow.Author.Tests.{leb-true, le-leb}
 use Rattle.model.specs.Lists.{every, count, All}
-use Rattle.model.proofs.ListLaws.{both, and-both}
+use Rattle.laws.proofs.ListLaws.{both, and-both}
 use Rattle.plans.specs.declared.Job.{Job}
 use Rattle.plans.specs.declared.Booking.{Booking}
 use Rattle.plans.specs.Plans.{jobsOf, jobWithin, jobsWithin, withinLimits, booked, endsBy, clearOf, apart, accepts}

@@ -8,7 +8,7 @@ use lib.Dec.{leb, ltb, eqb}
 use borrow.Author.Tests.{ltb-true, leb-true, leb-false, eqb-true, eq-eqb, le-leb, lt-ltb, not-true}
 use Rattle.calendar.specs.Calendar.{allOf}
 use Rattle.model.specs.Lists.{every, count, All}
-use Rattle.model.proofs.ListLaws.{cases, clash, both, and-both, all-at, all-true}
+use Rattle.laws.proofs.ListLaws.{cases, clash, both, and-both, all-at, all-true}
 use Rattle.plans.specs.declared.Booking.{Booking}
 use Rattle.plans.specs.Plans.{overlap, clearOf, apart}
 use Rattle.plans.proofs.Pairs.{overlap-facts, facts-overlap}

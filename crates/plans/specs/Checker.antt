@@ -1,4 +1,4 @@
--- Request 13, packing the break: what the checker answers, for all inputs. Assumes nothing: these are definitions.
+-- Document 02, item 13, packing the break: what the checker answers, for all inputs. Assumes nothing: these are definitions.
 use Prim.Native.Nat.{ℕ}
 use mathlib.Core.Bool.{not}
 use mathlib.Core.List.{List, [], _∷_}

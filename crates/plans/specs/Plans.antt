@@ -1,4 +1,4 @@
--- Request 13, packing the break: jobs, plans, and which plans are good. Jobs come as words, two a job: its bench, and its length in ticks. A plan is
+-- Document 02, item 13, packing the break: jobs, plans, and which plans are good. Jobs come as words, two a job: its bench, and its length in ticks. A plan is
 -- a list of start ticks, one a job, in the jobs' order, counted from the start of the break; `end` is the tick at which the break ends, its length.
 -- Assumes nothing: these are definitions.
 use Prim.Native.Nat.{ℕ, _+_, _*_}

@@ -43,7 +43,7 @@ const LAST_BENCH: u32 = 4;
 pub const BENCHES: usize = 5;
 
 // The longest job, and the longest break.
-const MOST_TICKS: u32 = 1000000;
+const LONGEST: u32 = 1000000;
 
 fn wide(x: u32) -> u64
     ensures { λ r. ⌜ (r ≡ x) × (r < 4294967296) ⌝ }
@@ -76,7 +76,7 @@ fn job_within(job: Job) -> bool
     if job.ticks < 1 {
         return false;
     }
-    if MOST_TICKS < job.ticks {
+    if LONGEST < job.ticks {
         return false;
     }
     true
@@ -107,7 +107,7 @@ fn jobs_within(jobs: &[u32]) -> bool
 pub fn within_limits(jobs: &[u32], end: u32) -> bool
     ensures { λ r. ⌜ r ≡ withinLimits (now (jobs .entry)) end ⌝ }
 {
-    if MOST_TICKS < end {
+    if LONGEST < end {
         return false;
     }
     jobs_within(jobs)

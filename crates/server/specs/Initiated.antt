@@ -2,19 +2,18 @@
 -- speak of the model. Assumes nothing: these are definitions.
 use mathlib.Core.Path.{_≡_}
 use Prim.Native.Nat.{ℕ}
-use mathlib.Core.Bool.{true, false, not}
+use mathlib.Core.Bool.{false, not}
 use mathlib.Core.List.{List, [], _∷_}
 use Rattle.model.specs.Status.{Refusal}
-use Rattle.model.specs.Directives.{unsound, notInitiated}
+use Rattle.model.specs.Directives.{unsound, noParty, notInitiated}
 use Rattle.model.specs.Words.{read}
-use Rattle.model.specs.Sound.{sound}
+use Rattle.opening.specs.Parties.{Member}
 
--- the table is not sound; the server is not initiated
-abbrev pub onServer : List ℕ → List Refusal
-onServer t = unsound t ∷ notInitiated (read t) ∷ []
+-- the table is not sound; no party has this number; the server is not initiated
+abbrev pub onServer : List ℕ → ℕ → List Refusal
+onServer t party = unsound t ∷ noParty (read t) party ∷ notInitiated (read t) ∷ []
 
--- neither rule applies
-pub record Initiated (t : List ℕ) : Type 0 where
-  pub ok : sound t ≡ true
-  pub tested : not (sound t) ≡ false
+-- no rule applies
+pub record Initiated (t : List ℕ) (party : ℕ) : Type 0 where
+  pub member : Member t party
   pub rule : not (read t .server) ≡ false

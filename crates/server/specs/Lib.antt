@@ -1,1 +1,2 @@
 pub mod Initiated
+pub mod HandedOut

@@ -12,7 +12,7 @@ use Rattle.model.specs.declared.Chain.the-variants.{Queue}
 use Rattle.model.specs.State.{Link}
 use Rattle.model.specs.Words.{along, linksFrom, links, slotCount, firstQueued, waitOf, nextOf}
 use Rattle.model.specs.Sound.{chainTests, chainSound, soundTests, sound}
-use Rattle.model.proofs.ListLaws.{all-at, every-all, all-map}
+use Rattle.laws.proofs.ListLaws.{all-at, every-all, all-map}
 use Rattle.walks.specs.Walks.{Stand}
 use Rattle.walks.proofs.NoSlotTwice.{links-first, links-zero}
 use Rattle.walks.proofs.OnePass.{Passing}

@@ -14,8 +14,8 @@ use Rattle.model.specs.declared.Chain.the-variants.{ByTicks, ByDate, Queue}
 use Rattle.model.specs.declared.Mode.the-variants.{Every, ServerAfter, ServerWhen}
 use Rattle.model.specs.Kinds.{kindAt, waitsIn}
 use Rattle.model.specs.Words.{headWord, kindOf, nameOf, intervalOf, routineOf}
-use Rattle.model.proofs.ListLaws.{cases, clash}
-use Rattle.model.proofs.KindLaws.{in-none}
+use Rattle.laws.proofs.ListLaws.{cases, clash}
+use Rattle.laws.proofs.KindLaws.{in-none}
 use Rattle.table.proofs.KindTests.{ticking-is, dated-is, new-apart}
 use Rattle.word_checks.specs.Tested.{newTested, idleTested, slotTested}
 use Rattle.word_checks.proofs.SlotTests.{kind-fails, name-fails, routine-fails, new-slot, as-kind, rest, waiting-ticks, waiting-every, waiting-date, idle, idle-low}

@@ -3,6 +3,8 @@
 use answers::Answer;
 use answers::number_in;
 use answers::status_of;
+use table::ONE_PARTY;
+use table::PARTY_1;
 
 const SLOTS: u32 = 3;
 
@@ -25,11 +27,11 @@ fn line(answer: Answer) -> u32 {
 
 // The two timers start: for 5 ticks each.
 fn start_both(table: &mut [u32]) {
-    line(timer::lay_out(table, SLOTS, TICKS_PER_SECOND));
-    let first = line(timer::create(table, 1));
-    let second = line(timer::create(table, 2));
-    line(starts::fire_after(table, first, 5, 7, 70));
-    line(starts::fire_after(table, second, 5, 8, 80));
+    line(timer::lay_out(table, SLOTS, TICKS_PER_SECOND, ONE_PARTY));
+    let first = line(timer::create(table, PARTY_1, 1));
+    let second = line(timer::create(table, PARTY_1, 2));
+    line(starts::fire_after(table, PARTY_1, first, 5, 7, 70));
+    line(starts::fire_after(table, PARTY_1, second, 5, 8, 80));
 }
 
 fn main() {

@@ -3,8 +3,9 @@ use Prim.Native.Nat.{ℕ, zero, suc, _-_}
 use mathlib.Core.Bool.{cond}
 use mathlib.Core.List.{List}
 use lib.Dec.{eqb}
-use Rattle.model.specs.State.{indexOf, names}
-use Rattle.model.specs.Words.{field, read}
+use Rattle.model.specs.Parties.{firstOwn, lastOwn}
+use Rattle.model.specs.State.{indexOf, namesOwn}
+use Rattle.model.specs.Words.{field, read, slotCount, partySplit}
 
 -- the lowest of m slots from i on whose word f is v; 0 if there is none
 unfoldable pub lowestWith : List ℕ → ℕ → ℕ → ℕ → ℕ → ℕ
@@ -15,6 +16,10 @@ lowestWith t f v i (suc m) = cond (eqb (field t i f) v) i (lowestWith t f v (suc
 unfoldable pub lowestIn : List ℕ → ℕ → ℕ → ℕ → ℕ → ℕ
 lowestIn t f v i n = lowestWith t f v i (suc n - i)
 
--- the slot of the timer that an id names; 0 if it names none
-unfoldable pub namedSlot : List ℕ → ℕ → ℕ
-namedSlot t id = cond (names (read t) id) (indexOf id) 0
+-- the lowest slot of the party whose word f is v; 0 if it has none
+abbrev pub lowestOwn : List ℕ → ℕ → ℕ → ℕ → ℕ
+lowestOwn t party f v = lowestIn t f v (firstOwn (partySplit t) party) (lastOwn (partySplit t) (slotCount t) party)
+
+-- the slot of the party's timer that an id names; 0 if it names none
+unfoldable pub namedSlot : List ℕ → ℕ → ℕ → ℕ
+namedSlot t party id = cond (namesOwn (read t) party id) (indexOf id) 0

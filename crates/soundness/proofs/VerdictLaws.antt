@@ -9,7 +9,7 @@ use native.Mathlib.Omega.{arith}
 use lib.Dec.{eqb}
 use borrow.Author.Tests.{eq-eqb, ne-eqb}
 use Rattle.model.specs.Sound.{soundTests, sound}
-use Rattle.model.proofs.ListLaws.{cases, all-at}
+use Rattle.laws.proofs.ListLaws.{cases, all-at}
 use Rattle.word_checks.proofs.HeaderTests.{header-ranges}
 use Rattle.server_check.specs.LastSlots.{lastQueued, lastIfSound}
 use Rattle.server_check.proofs.LastSlot.{last-in-table}

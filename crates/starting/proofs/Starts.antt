@@ -15,8 +15,8 @@ use Rattle.model.specs.State.{indexOf}
 use Rattle.model.specs.Directives.{started, leaves, refusals, effect}
 use Rattle.model.specs.Words.{writtenOver, read}
 use Rattle.model.specs.Outcome.{Outcome, outcomeOf, statusOn, refused, accepted, outcome}
-use Rattle.model.proofs.StatusLaws.{not-zero}
-use Rattle.model.proofs.AcceptedCalls.{noRule, none-given, first-given}
+use Rattle.laws.proofs.StatusLaws.{not-zero}
+use Rattle.laws.proofs.AcceptedCalls.{noRule, none-given, first-given}
 use Rattle.starting.specs.Starts.{startOutcome}
 
 module _ (m : Mode) (rules : List Refusal) (t : List ℕ) (id n r u : ℕ) where

@@ -24,13 +24,14 @@ use table::SECONDS;
 pub fn start_for_ticks(
     table: &mut [u32],
     mode: Mode,
+    party: u32,
     id: u32,
     ticks: u32,
     routine: u32,
     user_data: u32,
 ) -> Answer
     requires { ⌜ sound (now table) ≡ true ⌝ }
-    ensures { λ r. ⌜ outcomeOf (statusOf r) (answerOf r) (now (table .exit)) [] ≡ startOutcome mode (startRules (read (now (table .entry))) id ticks routine) (now (table .entry)) id ticks routine user_data ⌝ }
+    ensures { λ r. ⌜ outcomeOf (statusOf r) (answerOf r) (now (table .exit)) [] ≡ startOutcome mode (startRules (read (now (table .entry))) party id ticks routine) (now (table .entry)) id ticks routine user_data ⌝ }
 {
     if ticks == 0 {
         return Answer::Refused(Status::InvalidNumber);
@@ -38,7 +39,7 @@ pub fn start_for_ticks(
     if routine == 0 {
         return Answer::Refused(Status::InvalidAddress);
     }
-    let i = named(table, id);
+    let i = named(table, party, id);
     if i == 0 {
         return Answer::Refused(Status::InvalidId);
     }
@@ -50,13 +51,14 @@ pub fn start_for_ticks(
 pub fn start_for_date(
     table: &mut [u32],
     mode: Mode,
+    party: u32,
     id: u32,
     when: WallTime,
     routine: u32,
     user_data: u32,
 ) -> Answer
     requires { ⌜ sound (now table) ≡ true ⌝ }
-    ensures { λ r. ⌜ outcomeOf (statusOf r) (answerOf r) (now (table .exit)) [] ≡ startOutcome mode (dateRules (read (now (table .entry))) id when routine) (now (table .entry)) id (secondsOf when) routine user_data ⌝ }
+    ensures { λ r. ⌜ outcomeOf (statusOf r) (answerOf r) (now (table .exit)) [] ≡ startOutcome mode (dateRules (read (now (table .entry))) party id when routine) (now (table .entry)) id (secondsOf when) routine user_data ⌝ }
 {
     if table[CLOCK_SET] != 1 {
         return Answer::Refused(Status::NotDefined);
@@ -70,7 +72,7 @@ pub fn start_for_date(
     if date <= table[SECONDS] {
         return Answer::Refused(Status::InvalidClock);
     }
-    let i = named(table, id);
+    let i = named(table, party, id);
     if i == 0 {
         return Answer::Refused(Status::InvalidId);
     }

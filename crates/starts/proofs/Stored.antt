@@ -14,8 +14,8 @@ use Rattle.model.specs.Calls.{reset}
 use Rattle.model.specs.State.{Slot, slotAt, indexOf}
 use Rattle.model.specs.Directives.{started, effect}
 use Rattle.model.specs.Words.{writtenOver, read, slotFrom, kindOf, intervalOf, routineOf, dataOf}
-use Rattle.model.proofs.KindLaws.{on-numbers}
-use Rattle.model.proofs.ReadBack.{slot-read}
+use Rattle.laws.proofs.KindLaws.{on-numbers}
+use Rattle.laws.proofs.ReadBack.{slot-read}
 use Rattle.table.proofs.KindTests.{timed-is}
 use Rattle.opening.specs.Ids.{Named}
 
@@ -50,7 +50,7 @@ module _ (n : ℕ) (timed : lastByTicks n ≡ true) where
 
 -- ---- the slot
 
-module _ {t : List ℕ} {id i : ℕ} (at : Named t id i) where
+module _ {t : List ℕ} {party id i : ℕ} (at : Named t party id i) where
   slot-is : slotAt (read t .slots) (indexOf id) ≡ slotFrom t i
   slot-is = ap (slotAt (read t .slots)) (sym (at .index)) ∙ slot-read t i (at .place .low) (at .place .high)
 
@@ -59,7 +59,7 @@ module _ {t : List ℕ} {id i : ℕ} (at : Named t id i) where
 
   pub reset-is : {m : Mode} {kind n r u : ℕ} {v : List ℕ} → kind ≡ kindOf t i → m ≡ lastMode kind
       → v ≡ writtenOver (started m (read t) i n r u) t → n ≡ intervalOf t i → r ≡ routineOf t i → u ≡ dataOf t i
-      → v ≡ writtenOver (effect t (read t) (reset id) .state) t
+      → v ≡ writtenOver (effect t (read t) (reset party id) .state) t
   reset-is k mode e a b c =
       e
       ∙ (λ j. writtenOver (started ((mode ∙ ap lastMode k) j) (read t) (at .index j) (a j) (b j) (c j)) t)

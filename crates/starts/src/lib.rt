@@ -12,8 +12,8 @@ use calendar::WallTime;
 use links::start;
 use model::Mode;
 use model::Status;
+use opening::open_party;
 use opening::open_timer;
-use soundness::is_sound;
 use starting::start_for_date;
 use starting::start_for_ticks;
 use table::*;
@@ -58,40 +58,64 @@ fn last_mode(kind: u32) -> Mode
 }
 
 // A timer fires so many ticks from now.
-pub fn fire_after(table: &mut [u32], id: u32, ticks: u32, routine: u32, user_data: u32) -> Answer
-    ensures { λ r. ⌜ outcomeOf (statusOf r) (answerOf r) (now (table .exit)) [] ≡ outcome (now (table .entry)) (call.fireAfter id ticks routine user_data) ⌝ }
+pub fn fire_after(
+    table: &mut [u32],
+    party: u32,
+    id: u32,
+    ticks: u32,
+    routine: u32,
+    user_data: u32,
+) -> Answer
+    ensures { λ r. ⌜ outcomeOf (statusOf r) (answerOf r) (now (table .exit)) [] ≡ outcome (now (table .entry)) (call.fireAfter party id ticks routine user_data) ⌝ }
 {
-    if !is_sound(table) {
-        return Answer::Refused(Status::NotSound);
-    }
-    start_for_ticks(table, Mode::After, id, ticks, routine, user_data)
+    let opened = open_party(table, party);
+    let Answer::Done(_) = opened else {
+        return opened;
+    };
+    start_for_ticks(table, Mode::After, party, id, ticks, routine, user_data)
 }
 
 // A timer fires every so many ticks from now on, until it is cancelled, started anew or deleted.
-pub fn fire_every(table: &mut [u32], id: u32, ticks: u32, routine: u32, user_data: u32) -> Answer
-    ensures { λ r. ⌜ outcomeOf (statusOf r) (answerOf r) (now (table .exit)) [] ≡ outcome (now (table .entry)) (call.fireEvery id ticks routine user_data) ⌝ }
+pub fn fire_every(
+    table: &mut [u32],
+    party: u32,
+    id: u32,
+    ticks: u32,
+    routine: u32,
+    user_data: u32,
+) -> Answer
+    ensures { λ r. ⌜ outcomeOf (statusOf r) (answerOf r) (now (table .exit)) [] ≡ outcome (now (table .entry)) (call.fireEvery party id ticks routine user_data) ⌝ }
 {
-    if !is_sound(table) {
-        return Answer::Refused(Status::NotSound);
-    }
-    start_for_ticks(table, Mode::Every, id, ticks, routine, user_data)
+    let opened = open_party(table, party);
+    let Answer::Done(_) = opened else {
+        return opened;
+    };
+    start_for_ticks(table, Mode::Every, party, id, ticks, routine, user_data)
 }
 
 // A timer waits for a date, behind every timer due at the same date.
-pub fn fire_when(table: &mut [u32], id: u32, when: WallTime, routine: u32, user_data: u32) -> Answer
-    ensures { λ r. ⌜ outcomeOf (statusOf r) (answerOf r) (now (table .exit)) [] ≡ outcome (now (table .entry)) (call.fireWhen id when routine user_data) ⌝ }
+pub fn fire_when(
+    table: &mut [u32],
+    party: u32,
+    id: u32,
+    when: WallTime,
+    routine: u32,
+    user_data: u32,
+) -> Answer
+    ensures { λ r. ⌜ outcomeOf (statusOf r) (answerOf r) (now (table .exit)) [] ≡ outcome (now (table .entry)) (call.fireWhen party id when routine user_data) ⌝ }
 {
-    if !is_sound(table) {
-        return Answer::Refused(Status::NotSound);
-    }
-    start_for_date(table, Mode::When, id, when, routine, user_data)
+    let opened = open_party(table, party);
+    let Answer::Done(_) = opened else {
+        return opened;
+    };
+    start_for_date(table, Mode::When, party, id, when, routine, user_data)
 }
 
 // A timer last started by interval starts again as it was, with the interval, routine and data that it has stored.
-pub fn reset(table: &mut [u32], id: u32) -> Answer
-    ensures { λ r. ⌜ outcomeOf (statusOf r) (answerOf r) (now (table .exit)) [] ≡ outcome (now (table .entry)) (call.reset id) ⌝ }
+pub fn reset(table: &mut [u32], party: u32, id: u32) -> Answer
+    ensures { λ r. ⌜ outcomeOf (statusOf r) (answerOf r) (now (table .exit)) [] ≡ outcome (now (table .entry)) (call.reset party id) ⌝ }
 {
-    let opened = open_timer(table, id);
+    let opened = open_timer(table, party, id);
     let Answer::Done(i) = opened else {
         return opened;
     };

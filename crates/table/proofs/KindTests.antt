@@ -10,8 +10,8 @@ use borrow.Author.Tests.{ltb-true, ltb-false, ne-eqb}
 use Rattle.model.specs.declared.Chain.{Chain}
 use Rattle.model.specs.declared.Chain.the-variants.{ByTicks, ByDate, Queue}
 use Rattle.model.specs.Kinds.{Kind, kindEntry, kinds, kindAt, isIn, waitsIn, isSome, linked, byTicks, lastByTicks}
-use Rattle.model.proofs.ListLaws.{cases, clash}
-use Rattle.model.proofs.KindLaws.{readAll, on-kinds, on-numbers}
+use Rattle.laws.proofs.ListLaws.{cases, clash}
+use Rattle.laws.proofs.KindLaws.{readAll, on-kinds, on-numbers}
 
 -- ---- a test on what a kind says is a test on its number
 

@@ -5,30 +5,30 @@ use native.Mathlib.Omega.{arith}
 use mathlib.Core.Bool.{true}
 use mathlib.Core.List.{List, [], _∷_, _++_}
 use lib.ListN.{length, set, drop, replicate, length-replicate}
-use lib.Dec.{eqb}
 use Rattle.model.specs.declared.Chain.the-variants.{ByTicks}
 use Rattle.model.specs.State.{Slot, State, withChain, free, slotAt}
 use Rattle.model.specs.Directives.{laidOut, lowestFree, stored, neverStarted, stopped, idled}
 use Rattle.model.specs.Words.{allSlots, write, writtenOver, read}
 use Rattle.model.specs.Sound.{sound}
-use Rattle.model.proofs.Slots.{put-put}
-use Rattle.model.proofs.Searches.{found}
-use Rattle.model.proofs.ReadBack.{slots-length, over-over}
-use Rattle.model.proofs.SoundHolds.{sound-holds}
-use Rattle.model.proofs.Steps.{length-stored}
+use Rattle.laws.proofs.Slots.{put-put}
+use Rattle.laws.proofs.Searches.{lowest-free}
+use Rattle.laws.proofs.ReadBack.{slots-length, over-over}
+use Rattle.laws.proofs.SoundHolds.{sound-holds}
+use Rattle.laws.proofs.Steps.{length-stored}
 use Rattle.links.specs.Places.{InTable}
 use Rattle.links.proofs.NextState.{next-read}
 use Rattle.links.proofs.Restart.{stoppedAt, stop-next, idle-now}
 
 -- ---- create
 
-module _ (t : List ℕ) (ok : sound t ≡ true) {i : ℕ} (is : lowestFree (read t) ≡ i) where
+module _ (t : List ℕ) (ok : sound t ≡ true) (party : ℕ) {i : ℕ} (is : lowestFree (read t) party ≡ i) where
   pub free-in-table : (i ≡ 0 → ⊥) → InTable t i
   free-in-table some =
-      let f = found (λ x. eqb (x .kind) 0) (read t .slots) (omega (arith, is, some)) in
+      let f = lowest-free (read t) party (omega (arith, is, some)) in
       record { holds = sound-holds t ok; low = omega (arith, some); high = omega (arith, f .high, slots-length t, is) }
 
-  pub created-is : {u : List ℕ} (name : ℕ) → u ≡ writtenOver (stored (read t) i (neverStarted name)) t → u ≡ writtenOver (stored (read t) (lowestFree (read t)) (neverStarted name)) t
+  pub created-is : {u : List ℕ} (name : ℕ) → u ≡ writtenOver (stored (read t) i (neverStarted name)) t
+      → u ≡ writtenOver (stored (read t) (lowestFree (read t) party) (neverStarted name)) t
   created-is name h = h ∙ ap (λ (k : ℕ). writtenOver (stored (read t) k (neverStarted name)) t) (sym is)
 
 -- ---- delete: u is the table after the stop
@@ -46,8 +46,8 @@ module _ {t : List ℕ} {i : ℕ} (at : InTable t i) {u : List ℕ} (e : u ≡ w
 
 -- ---- lay out
 
-module _ (n t : ℕ) (rest : List ℕ) where
-  free-words : (i m : ℕ) → allSlots (laidOut n t) i (replicate m free) rest ≡ replicate (8 * m) 0 ++ rest
+module _ (n t split : ℕ) (rest : List ℕ) where
+  free-words : (i m : ℕ) → allSlots (laidOut n t split) i (replicate m free) rest ≡ replicate (8 * m) 0 ++ rest
   free-words i zero = refl
   free-words i (suc m) =
       ap {B = List ℕ} (λ (l : List ℕ). 0 ∷ 0 ∷ 0 ∷ 0 ∷ 0 ∷ 0 ∷ 0 ∷ 0 ∷ l) (free-words (suc i) m)
@@ -56,17 +56,18 @@ module _ (n t : ℕ) (rest : List ℕ) where
       eight : suc (suc (suc (suc (suc (suc (suc (suc (8 * m)))))))) ≡ 8 * suc m
       eight = omega arith
 
-  laid-words : write (laidOut n t) rest ≡ set (set (replicate (10 + 8 * n) 0 ++ rest) 0 n) 1 t
+  laid-words : write (laidOut n t split) rest ≡ set (set (set (replicate (10 + 8 * n) 0 ++ rest) 0 n) 1 t) 7 split
   laid-words =
-      ap₂ {C = List ℕ} (λ (k : ℕ) (l : List ℕ). k ∷ t ∷ 0 ∷ 0 ∷ 0 ∷ 0 ∷ 0 ∷ 0 ∷ 0 ∷ 0 ∷ l) (length-replicate n free)
+      ap₂ {C = List ℕ} (λ (k : ℕ) (l : List ℕ). k ∷ t ∷ 0 ∷ 0 ∷ 0 ∷ 0 ∷ 0 ∷ split ∷ 0 ∷ 0 ∷ l) (length-replicate n free)
       (free-words 1 n)
-      ∙ ap (λ (k : ℕ). set (set (replicate k 0 ++ rest) 0 n) 1 t) ten
+      ∙ ap (λ (k : ℕ). set (set (set (replicate k 0 ++ rest) 0 n) 1 t) 7 split) ten
     where
       ten : suc (suc (suc (suc (suc (suc (suc (suc (suc (suc (8 * n)))))))))) ≡ 10 + 8 * n
       ten = omega arith
 
-pub laid-is : (w u : List ℕ) (n t : ℕ) → u ≡ replicate (10 + 8 * n) 0 ++ drop (10 + 8 * n) w → set (set u 0 n) 1 t ≡ writtenOver (laidOut n t) w
-laid-is w u n t e =
-    ap (λ (l : List ℕ). set (set l 0 n) 1 t) e
-    ∙ sym (laid-words n t (drop (10 + 8 * n) w))
-    ∙ ap (λ (k : ℕ). write (laidOut n t) (drop (10 + 8 * k) w)) (sym (length-replicate n free))
+pub laid-is : (w u : List ℕ) (n t split : ℕ) → u ≡ replicate (10 + 8 * n) 0 ++ drop (10 + 8 * n) w
+    → set (set (set u 0 n) 1 t) 7 split ≡ writtenOver (laidOut n t split) w
+laid-is w u n t split e =
+    ap (λ (l : List ℕ). set (set (set l 0 n) 1 t) 7 split) e
+    ∙ sym (laid-words n t split (drop (10 + 8 * n) w))
+    ∙ ap (λ (k : ℕ). write (laidOut n t split) (drop (10 + 8 * k) w)) (sym (length-replicate n free))

@@ -9,9 +9,9 @@ use Rattle.model.specs.declared.Chain.the-variants.{ByTicks}
 use Rattle.model.specs.Kinds.{waitsIn}
 use Rattle.model.specs.State.{Slot, Link, indexOf, waitAt}
 use Rattle.model.specs.Words.{read, kindOf}
-use Rattle.model.proofs.ListLaws.{cases}
-use Rattle.model.proofs.WellFormed.{timesIn}
-use Rattle.model.proofs.ReadBack.{slot-read}
+use Rattle.laws.proofs.ListLaws.{cases}
+use Rattle.laws.proofs.WellFormed.{timesIn}
+use Rattle.laws.proofs.ReadBack.{slot-read}
 use Rattle.opening.specs.Ids.{Named}
 
 wait-none : (i : ℕ) (l : List Link) → timesIn l i ≡ 0 → waitAt i l ≡ 0
@@ -19,7 +19,7 @@ wait-none i [] e = refl
 wait-none i (w ∷ ws) e =
     cases (eqb (w .slot) i) (λ f. absurd (let z = rw f at e in omega arith)) (λ f. rw f (wait-none i ws (rw f at e)))
 
-module _ {t : List ℕ} {id i : ℕ} (at : Named t id i) where
+module _ {t : List ℕ} {party id i : ℕ} (at : Named t party id i) where
   meets : timesIn (read t .ticking) i ≡ cond (waitsIn ByTicks (kindOf t i)) 1 0
   meets =
       at .place .holds .chained .meets ByTicks i

@@ -4,10 +4,10 @@
 // model's `outcome` (model/specs/Outcome.antt). `statusOf` and `answerOf` (answers/specs/Answers.antt) say what an answer is in document 01's
 // numbers.
 ghost use mathlib.Core.Path.{_≡_};
-ghost use mathlib.Core.List.{[], _∷_};
-ghost use lib.Dec.{leb};
+ghost use mathlib.Core.List.{[]};
 ghost use Rattle.calendar.specs.Calendar.{allOf};
 ghost use Rattle.model.specs.Calls as call;
+ghost use Rattle.model.specs.Directives.{limits};
 ghost use Rattle.model.specs.Outcome.{outcomeOf, outcome};
 ghost use Rattle.answers.specs.Answers.{statusOf, answerOf};
 use answers::Answer;
@@ -15,34 +15,29 @@ use links::stop;
 use links::store;
 use links::ticks_to;
 use model::Status;
+use opening::open_party;
 use opening::open_timer;
 use slots::ID_BASE;
 use slots::clear;
-use slots::find;
-use soundness::is_sound;
+use slots::free_slot;
+use slots::slot_called;
 use table::*;
 
 // The numbers of a lay out are within their limits.
-fn within_limits(slots: u32, rate: u32) -> bool
-    ensures { λ r. ⌜ r ≡ allOf (leb 1 slots ∷ leb slots 255 ∷ leb 1 rate ∷ leb rate 1000 ∷ []) ⌝ }
-{
-    if slots < 1 {
-        return false;
-    }
-    if MOST_SLOTS < slots {
-        return false;
-    }
-    if rate < 1 {
-        return false;
-    }
-    rate <= MOST_TICKS
-}
-
-// A table for so many slots: clock not set, all slots free.
-pub fn lay_out(table: &mut [u32], slots: u32, rate: u32) -> Answer
-    ensures { λ r. ⌜ outcomeOf (statusOf r) (answerOf r) (now (table .exit)) [] ≡ outcome (now (table .entry)) (call.layOut slots rate) ⌝ }
+fn numbers_fit(slots: u32, rate: u32, split: u32) -> bool
+    ensures { λ r. ⌜ r ≡ allOf (limits slots rate split) ⌝ }
 {
     if !within_limits(slots, rate) {
+        return false;
+    }
+    split < slots
+}
+
+// A table for so many slots: clock not set, all slots free. The first `split` of them are party 1's, the rest party 2's; 0 is for one party.
+pub fn lay_out(table: &mut [u32], slots: u32, rate: u32, split: u32) -> Answer
+    ensures { λ r. ⌜ outcomeOf (statusOf r) (answerOf r) (now (table .exit)) [] ≡ outcome (now (table .entry)) (call.layOut slots rate split) ⌝ }
+{
+    if !numbers_fit(slots, rate, split) {
         return Answer::Refused(Status::InvalidNumber);
     }
     let words = HEADER + SLOT * (slots as usize);
@@ -52,20 +47,22 @@ pub fn lay_out(table: &mut [u32], slots: u32, rate: u32) -> Answer
     clear(table, words);
     table[SLOT_COUNT] = slots;
     table[TICKS_PER_SECOND] = rate;
+    table[PARTY_SPLIT] = split;
     Answer::Done(0)
 }
 
-// The lowest free slot becomes a timer of this name; answers its id.
-pub fn create(table: &mut [u32], name: u32) -> Answer
-    ensures { λ r. ⌜ outcomeOf (statusOf r) (answerOf r) (now (table .exit)) [] ≡ outcome (now (table .entry)) (call.create name) ⌝ }
+// The party's lowest free slot becomes a timer of this name; answers its id.
+pub fn create(table: &mut [u32], party: u32, name: u32) -> Answer
+    ensures { λ r. ⌜ outcomeOf (statusOf r) (answerOf r) (now (table .exit)) [] ≡ outcome (now (table .entry)) (call.create party name) ⌝ }
 {
-    if !is_sound(table) {
-        return Answer::Refused(Status::NotSound);
-    }
+    let opened = open_party(table, party);
+    let Answer::Done(_) = opened else {
+        return opened;
+    };
     if name == 0 {
         return Answer::Refused(Status::InvalidName);
     }
-    let i = find(table, KIND, FREE, 1, table[SLOT_COUNT]);
+    let i = free_slot(table, party);
     if i == 0 {
         return Answer::Refused(Status::TooMany);
     }
@@ -73,17 +70,18 @@ pub fn create(table: &mut [u32], name: u32) -> Answer
     Answer::Done(ID_BASE + i)
 }
 
-// The id of the lowest slot with this name.
-pub fn ident(table: &[u32], name: u32) -> Answer
-    ensures { λ r. ⌜ outcomeOf (statusOf r) (answerOf r) (now (table .entry)) [] ≡ outcome (now (table .entry)) (call.ident name) ⌝ }
+// The id of the party's lowest slot with this name.
+pub fn ident(table: &[u32], party: u32, name: u32) -> Answer
+    ensures { λ r. ⌜ outcomeOf (statusOf r) (answerOf r) (now (table .entry)) [] ≡ outcome (now (table .entry)) (call.ident party name) ⌝ }
 {
-    if !is_sound(table) {
-        return Answer::Refused(Status::NotSound);
-    }
+    let opened = open_party(table, party);
+    let Answer::Done(_) = opened else {
+        return opened;
+    };
     if name == 0 {
         return Answer::Refused(Status::InvalidName);
     }
-    let i = find(table, NAME, name, 1, table[SLOT_COUNT]);
+    let i = slot_called(table, party, name);
     if i == 0 {
         return Answer::Refused(Status::InvalidName);
     }
@@ -91,10 +89,10 @@ pub fn ident(table: &[u32], name: u32) -> Answer
 }
 
 // A waiting or queued timer is idle then. Refused where there is nothing to cancel.
-pub fn cancel(table: &mut [u32], id: u32) -> Answer
-    ensures { λ r. ⌜ outcomeOf (statusOf r) (answerOf r) (now (table .exit)) [] ≡ outcome (now (table .entry)) (call.cancel id) ⌝ }
+pub fn cancel(table: &mut [u32], party: u32, id: u32) -> Answer
+    ensures { λ r. ⌜ outcomeOf (statusOf r) (answerOf r) (now (table .exit)) [] ≡ outcome (now (table .entry)) (call.cancel party id) ⌝ }
 {
-    let opened = open_timer(table, id);
+    let opened = open_timer(table, party, id);
     let Answer::Done(i) = opened else {
         return opened;
     };
@@ -105,10 +103,10 @@ pub fn cancel(table: &mut [u32], id: u32) -> Answer
 }
 
 // A timer is cancelled if waiting or queued, and its slot is free again.
-pub fn delete(table: &mut [u32], id: u32) -> Answer
-    ensures { λ r. ⌜ outcomeOf (statusOf r) (answerOf r) (now (table .exit)) [] ≡ outcome (now (table .entry)) (call.delete id) ⌝ }
+pub fn delete(table: &mut [u32], party: u32, id: u32) -> Answer
+    ensures { λ r. ⌜ outcomeOf (statusOf r) (answerOf r) (now (table .exit)) [] ≡ outcome (now (table .entry)) (call.delete party id) ⌝ }
 {
-    let opened = open_timer(table, id);
+    let opened = open_timer(table, party, id);
     let Answer::Done(i) = opened else {
         return opened;
     };
@@ -118,10 +116,10 @@ pub fn delete(table: &mut [u32], id: u32) -> Answer
 }
 
 // The ticks until a timer that waits for ticks fires or is queued; 0 for any other.
-pub fn ticks_left(table: &[u32], id: u32) -> Answer
-    ensures { λ r. ⌜ outcomeOf (statusOf r) (answerOf r) (now (table .entry)) [] ≡ outcome (now (table .entry)) (call.ticksLeft id) ⌝ }
+pub fn ticks_left(table: &[u32], party: u32, id: u32) -> Answer
+    ensures { λ r. ⌜ outcomeOf (statusOf r) (answerOf r) (now (table .entry)) [] ≡ outcome (now (table .entry)) (call.ticksLeft party id) ⌝ }
 {
-    let opened = open_timer(table, id);
+    let opened = open_timer(table, party, id);
     let Answer::Done(i) = opened else {
         return opened;
     };

@@ -10,7 +10,7 @@ use lib.ListN.{length}
 use lib.Dec.{eqb}
 use borrow.Author.Tests.{eqb-true, eqb-false, ne-eqb}
 use Rattle.model.specs.Lists.{count, All}
-use Rattle.model.proofs.ListLaws.{cases}
+use Rattle.laws.proofs.ListLaws.{cases}
 
 -- how often x stands in the list
 abbrev pub times : ℕ → List ℕ → ℕ

@@ -7,8 +7,8 @@ use mathlib.Core.Bool.{true, false, cond}
 use Rattle.model.specs.declared.Chain.{Chain}
 use Rattle.model.specs.declared.Chain.the-variants.{ByTicks, ByDate, Queue}
 use Rattle.model.specs.Kinds.{kindAt, sameChain, isIn, waitsIn, isSome, linked, byTicks, lastByTicks}
-use Rattle.model.proofs.ListLaws.{cases, clash}
-use Rattle.model.proofs.KindLaws.{on-numbers, one-chain, none-in}
+use Rattle.laws.proofs.ListLaws.{cases, clash}
+use Rattle.laws.proofs.KindLaws.{on-numbers, one-chain, none-in}
 
 pub not-both : (j k : Chain) → sameChain j k ≡ false → (n : ℕ) → waitsIn j n ≡ true → waitsIn k n ≡ false
 not-both j k d n e =

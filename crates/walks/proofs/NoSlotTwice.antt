@@ -11,7 +11,7 @@ use Rattle.model.specs.Lists.{All}
 use Rattle.model.specs.declared.Chain.{Chain}
 use Rattle.model.specs.State.{Link}
 use Rattle.model.specs.Words.{along, accumulated, linksFrom, waitOf, nextOf}
-use Rattle.model.proofs.ListLaws.{cases}
+use Rattle.laws.proofs.ListLaws.{cases}
 use Rattle.walks.proofs.CountsAddUp.{times}
 
 module _ (next : ℕ → ℕ) where

@@ -18,7 +18,7 @@ use Rattle.model.specs.declared.Chain.the-variants.{ByTicks, ByDate, Queue}
 use Rattle.model.specs.Kinds.{waitsIn}
 use Rattle.model.specs.Words.{word, headWord, along, slotCount, seconds, firstTicking, firstDated, firstQueued, serverInitiated, kindOf, intervalOf, nextOf}
 use Rattle.model.specs.Sound.{headerSound, slotSound, chainSound, soundTests, sound}
-use Rattle.model.proofs.ListLaws.{cases, clash, both, and-both, or-left, or-right, or-else, all-at, all-true, all-up, up-at}
+use Rattle.laws.proofs.ListLaws.{cases, clash, both, and-both, or-left, or-right, or-else, all-at, all-true, all-up, up-at}
 use Rattle.word_checks.specs.Tested.{slotTested}
 use Rattle.word_checks.proofs.BooleanTests.{same, fails, or-both}
 use Rattle.word_checks.proofs.HeaderTests.{header-ranges}

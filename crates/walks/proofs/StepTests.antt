@@ -9,7 +9,7 @@ use Rattle.model.specs.declared.Chain.{Chain}
 use Rattle.model.specs.declared.Chain.the-variants.{ByTicks, ByDate, Queue}
 use Rattle.model.specs.Kinds.{waitsIn}
 use Rattle.model.specs.Words.{kindOf, intervalOf, waitOf, previousOf}
-use Rattle.model.proofs.ListLaws.{clash, both, and-both, all-at, all-true}
+use Rattle.laws.proofs.ListLaws.{clash, both, and-both, all-at, all-true}
 use Rattle.word_checks.proofs.BooleanTests.{never}
 use Rattle.walks.specs.Walks.{Stand, linkTests, linkTested, waitTested, stepTested}
 

@@ -22,7 +22,7 @@ use Rattle.model.specs.declared.Chain.the-variants.{ByTicks, ByDate, Queue}
 use Rattle.model.specs.Kinds.{waitsIn, linked, lastByTicks}
 use Rattle.model.specs.Words.{along, slotCount, firstTicking, firstDated, firstQueued, kindOf, intervalOf, waitOf, nextOf, previousOf}
 use Rattle.model.specs.Sound.{previousSound}
-use Rattle.model.proofs.ListLaws.{cases, clash, both, and-both, or-right, or-else}
+use Rattle.laws.proofs.ListLaws.{cases, clash, both, and-both, or-right, or-else}
 use Rattle.word_checks.specs.Tested.{slotTested}
 use Rattle.word_checks.proofs.SlotTests.{tested}
 use Rattle.walks.specs.Walks.{Stand, standing, start, linkTested, waitTested, stepTested, step, walkTested}

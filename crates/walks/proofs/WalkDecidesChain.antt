@@ -17,7 +17,7 @@ use Rattle.model.specs.Kinds.{waitsIn}
 use Rattle.model.specs.State.{Link}
 use Rattle.model.specs.Words.{word, headWord, along, accumulated, linksFrom, slotCount, seconds, firstTicking, firstDated, firstQueued, kindOf, intervalOf, waitOf, nextOf, previousOf}
 use Rattle.model.specs.Sound.{previousSound, chainTests, chainSound, firstSound, ticksSound, rising, datesSound, queueSound}
-use Rattle.model.proofs.ListLaws.{cases, clash, both, and-both, all-at, all-true, all-up, up-at, every-true, every-all, all-map, all-zip}
+use Rattle.laws.proofs.ListLaws.{cases, clash, both, and-both, all-at, all-true, all-up, up-at, every-true, every-all, all-map, all-zip}
 use Rattle.word_checks.proofs.BooleanTests.{same, exchange}
 use Rattle.walks.specs.Walks.{Stand, standing, origin, start, linkTested, waitTested, step, waiting}
 use Rattle.walks.proofs.StepTests.{InLink, in-link, link-in}

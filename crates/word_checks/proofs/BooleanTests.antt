@@ -9,7 +9,7 @@ use lib.Bits.{bitOr, or-add-and, and-le-l, and-le-r}
 use lib.Dec.{eqb}
 use borrow.Author.Tests.{eqb-true, eq-eqb, not-true, not-false}
 use Rattle.calendar.specs.Calendar.{allOf}
-use Rattle.model.proofs.ListLaws.{cases, clash, both, and-both}
+use Rattle.laws.proofs.ListLaws.{cases, clash, both, and-both}
 use Rattle.word_checks.specs.Tested.{allZero}
 
 -- what a call said of a test, and which way the test went

@@ -1,19 +1,18 @@
 -- The header's tests: what they say where they pass, and what is left of them where most have passed. Assumes nothing.
-use Prim.Native.Nat.{ℕ, _+_, _*_, _/_, _≤_, _<_}
+use Prim.Native.Nat.{ℕ, _+_, _*_, _≤_, _<_}
 use mathlib.Core.Path.{_≡_, sym, _∙_}
 use mathlib.Core.Bool.{true, false, _||_, and-true}
 use mathlib.Core.List.{List, [], _∷_}
 use lib.ListN.{length}
 use native.Mathlib.Omega.{arith}
-use lib.Bits.{bitOr}
 use lib.Dec.{eqb}
-use borrow.Author.Tests.{eqb-true, eq-eqb, ne-eqb, lt-ltb, le-leb, leb-true, ltb-true}
+use borrow.Author.Tests.{eq-eqb, ne-eqb, lt-ltb, le-leb, leb-true, ltb-true}
 use Rattle.calendar.specs.Calendar.{lastSecond}
-use Rattle.model.proofs.ListLaws.{all-at}
-use Rattle.model.specs.Words.{word, slotCount, ticksPerSecond, clockSet, seconds, ticksInto, firstDated, serverInitiated}
+use Rattle.laws.proofs.ListLaws.{all-at}
+use Rattle.model.specs.Words.{slotCount, ticksPerSecond, clockSet, seconds, ticksInto, firstDated, partySplit, serverInitiated}
 use Rattle.model.specs.Sound.{headerTests, headerSound}
 use Rattle.word_checks.specs.Tested.{allZero}
-use Rattle.word_checks.proofs.BooleanTests.{never, or-none}
+use Rattle.word_checks.proofs.BooleanTests.{never}
 
 -- what all of them say but the last
 pub record Ranges (t : List ℕ) : Type 0 where
@@ -23,15 +22,8 @@ pub record Ranges (t : List ℕ) : Type 0 where
   pub flag : clockSet t ≤ 1
   pub second : seconds t ≤ lastSecond
   pub ticks : ticksInto t < ticksPerSecond t
-  pub spare : word t 7 ≡ 0
+  pub split : partySplit t < slotCount t
   pub server : serverInitiated t ≤ 1
-
--- one test for the spare word and the server's
-pub bits-none : (a b : ℕ) → a ≡ 0 → b ≤ 1 → bitOr a (b / 2) ≡ 0
-bits-none a b e h = let z : b / 2 ≡ 0 = omega arith in rw (e, z)
-
-pub none-bits : (a b : ℕ) → bitOr a (b / 2) ≡ 0 → (a ≡ 0) × (b ≤ 1)
-none-bits a b e = let z = or-none a (b / 2) e in (z .0, omega (arith, z .1))
 
 module _ (t : List ℕ) where
   pub header-ranges : headerSound t ≡ true → Ranges t
@@ -45,7 +37,7 @@ module _ (t : List ℕ) where
         flag = leb-true (clockSet t) 1 (at 5);
         second = leb-true (seconds t) lastSecond (at 6);
         ticks = ltb-true (ticksInto t) (ticksPerSecond t) (at 7);
-        spare = eqb-true (word t 7) 0 (at 8);
+        split = ltb-true (partySplit t) (slotCount t) (at 8);
         server = leb-true (serverInitiated t) 1 (at 9);
       }
 
@@ -65,7 +57,7 @@ module _ (t : List ℕ) where
         le-leb (clockSet t) 1 (r .flag),
         le-leb (seconds t) lastSecond (r .second),
         lt-ltb (ticksInto t) (ticksPerSecond t) (r .ticks),
-        eq-eqb (word t 7) 0 (r .spare),
+        lt-ltb (partySplit t) (slotCount t) (r .split),
         le-leb (serverInitiated t) 1 (r .server),
       )
       (and-true (eqb (clockSet t) 1 || allZero (seconds t) (ticksInto t) (firstDated t)))

@@ -14,8 +14,8 @@ use Rattle.model.specs.declared.Mode.the-variants.{After, When, Every, ServerAf
 use Rattle.model.specs.Kinds.{kindAt, chainFor, waitingKind, sameChain, waitsIn, linked, lastByTicks}
 use Rattle.model.specs.Words.{kindOf, nameOf, intervalOf, waitOf, routineOf, dataOf, nextOf, previousOf, serverInitiated}
 use Rattle.model.specs.Sound.{slotTests, slotSound, unlinked, unstarted}
-use Rattle.model.proofs.ListLaws.{cases, clash, both, or-right, all-at, all-true}
-use Rattle.model.proofs.KindLaws.{in-ticks}
+use Rattle.laws.proofs.ListLaws.{cases, clash, both, or-right, all-at, all-true}
+use Rattle.laws.proofs.KindLaws.{in-ticks}
 use Rattle.table.proofs.KindTests.{new-apart}
 use Rattle.word_checks.specs.Tested.{newTested, idleTested, slotTestsMade, slotTestedAs, slotTested}
 use Rattle.word_checks.proofs.BooleanTests.{fails}

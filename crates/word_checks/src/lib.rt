@@ -44,7 +44,7 @@ pub fn header_sound(t: &[u32]) -> bool
     if per_second < 1 {
         return false;
     }
-    if MOST_TICKS < per_second {
+    if MOST_RATE < per_second {
         return false;
     }
     if 1 < t[CLOCK_SET] {
@@ -56,8 +56,10 @@ pub fn header_sound(t: &[u32]) -> bool
     if per_second <= t[TICKS] {
         return false;
     }
-    // one test for both: the spare word is 0, and the server's is 0 or 1
-    if (t[SPARE_7] | (t[SERVER] >> 1)) != 0 {
+    if n <= t[PARTY_SPLIT] {
+        return false;
+    }
+    if 1 < t[SERVER] {
         return false;
     }
     if t[CLOCK_SET] == 1 {

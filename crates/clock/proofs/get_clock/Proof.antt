@@ -5,7 +5,7 @@ use mathlib.Core.Path.{refl}
 use Prim.Native.Nat.{ℕ}
 use native.Mathlib.Omega.{arith}
 use Rattle.model.specs.declared.Status.the-variants.{NotDefined, NotSound}
-use Rattle.model.proofs.SoundHolds.{sound-header}
+use Rattle.laws.proofs.SoundHolds.{sound-header}
 use Rattle.answers.proofs.Replies.{Tested, tested, not-same, refuses, done, same-table, clock-unset, clock-running}
 use Rattle.clock.proofs.Clocks.{in-calendar, time-now}
 use Rattle.clock.proofs.get_clock.Statement.{statement}

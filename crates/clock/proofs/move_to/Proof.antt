@@ -7,7 +7,7 @@ use mir.Syntax.{w64}
 use mir.ValLaws.{toZ-ofZ}
 use borrow.Author.Needs.{sfits-of}
 use borrow.Author.Tests.{eq-eqb, ne-eqb}
-use Rattle.model.proofs.SoundHolds.{sound-header}
+use Rattle.laws.proofs.SoundHolds.{sound-header}
 use Rattle.clock.proofs.move_to.Statement.{statement}
 use Rattle.clock.proofs.move_to.Tie as tie
 

@@ -9,7 +9,7 @@ use lib.ListN.{length}
 use Rattle.model.specs.declared.Status.the-variants.{NotSound, ListTooShort}
 use Rattle.model.specs.Words.{slotCount}
 use Rattle.model.specs.Sound.{sound}
-use Rattle.model.proofs.SoundHolds.{sound-header}
+use Rattle.laws.proofs.SoundHolds.{sound-header}
 use Rattle.answers.proofs.Openings.{goes-on, stops}
 use Rattle.clock.proofs.Lists.{too-short, not-short}
 use Rattle.clock.proofs.Verdicts.{says-not, says-ok, says-end}

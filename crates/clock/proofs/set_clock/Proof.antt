@@ -11,8 +11,8 @@ use Rattle.model.specs.declared.Chain.the-variants.{ByTicks}
 use Rattle.model.specs.Kinds.{sameChain}
 use Rattle.model.specs.Calls.{setClock}
 use Rattle.model.specs.Outcome.{outcomeOf, outcome}
-use Rattle.model.proofs.ListLaws.{clash}
-use Rattle.model.proofs.SoundHolds.{sound-holds, sound-header}
+use Rattle.laws.proofs.ListLaws.{clash}
+use Rattle.laws.proofs.SoundHolds.{sound-holds, sound-header}
 use Rattle.firing.proofs.Ticks.{moved-room, moved-is}
 use Rattle.clock.specs.Lent.{Lent}
 use Rattle.clock.proofs.Clocks.{not-valid, too-many-ticks, is-clock, opening-refused, clock-refused, accepted-moves, second-is, set-clock-done}

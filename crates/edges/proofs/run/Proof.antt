@@ -6,10 +6,10 @@ use Rattle.edges.proofs.run.Statement.{statement}
 use Rattle.edges.proofs.run.Tie as tie
 
 abbrev Inv-loop : tie.InvT-loop
-Inv-loop text table₀ list₀ at₀ table list at = at ≤ length text
+Inv-loop text table₀ list₀ party₀ at₀ table list party at = at ≤ length text
 
 abbrev μ-loop : tie.MeasureT-loop
-μ-loop text table₀ list₀ at₀ table list at = length text - at
+μ-loop text table₀ list₀ party₀ at₀ table list party at = length text - at
 
 loop-holds : tie.Need-loop-holds Inv-loop μ-loop
 loop-holds c = search needs
@@ -31,6 +31,9 @@ part-step-of-end c = search needs
 
 step-of-requires : tie.Need-step-of-requires Inv-loop μ-loop
 step-of-requires c κs = search needs
+
+caller-after-requires : tie.Need-caller-after-requires Inv-loop μ-loop
+caller-after-requires c κs = search needs
 
 play-requires : tie.Need-play-requires Inv-loop μ-loop
 play-requires c κs = search needs
@@ -57,6 +60,7 @@ run-spec =
     part-step-of-start
     part-step-of-end
     step-of-requires
+    caller-after-requires
     play-requires
     loop-less
     loop-again

@@ -6,7 +6,7 @@ use lib.ListN.{set}
 use borrow.Author.Needs.{needs}
 use Rattle.model.specs.declared.Chain.the-variants.{ByTicks}
 use Rattle.model.specs.Words.{read, firstTicking}
-use Rattle.model.proofs.WellFormed.{Holds}
+use Rattle.laws.proofs.WellFormed.{Holds}
 use Rattle.firing.proofs.Heads.{Front, front}
 use Rattle.firing.proofs.Nearer.{nearer-none, first-waits, nearer-some}
 use Rattle.firing.proofs.come_nearer.Statement.{statement}

@@ -4,7 +4,7 @@ use Prim.Native.Nat.{ℕ}
 use native.Mathlib.Omega.{arith}
 use Rattle.model.specs.Kinds.{kindAt}
 use borrow.Author.Needs.{needs}
-use Rattle.model.proofs.ReadBack.{slots-length}
+use Rattle.laws.proofs.ReadBack.{slots-length}
 use Rattle.links.proofs.Extracting.{in-words}
 use Rattle.firing.proofs.come_off.Statement.{statement}
 use Rattle.firing.proofs.come_off.Tie as tie

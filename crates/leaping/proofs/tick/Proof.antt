@@ -7,7 +7,7 @@ use lib.ListN.{length}
 use Rattle.model.specs.declared.Chain.the-variants.{ByDate}
 use Rattle.model.specs.Directives.{clockStep}
 use Rattle.model.specs.Words.{read, seconds}
-use Rattle.model.proofs.SoundHolds.{sound-holds, sound-well-formed}
+use Rattle.laws.proofs.SoundHolds.{sound-holds, sound-well-formed}
 use Rattle.firing.specs.Lists.{Room}
 use Rattle.firing.proofs.Ticks.{nearer-room, first-holds, first-into, clock-long, clock-room, second-is, ticked-is}
 use Rattle.leaping.proofs.Leaping.{tick-is}

@@ -1,7 +1,7 @@
 -- `leaping::until_date` meets its contract: there is no date to come, or the ticks until the first are reckoned. Assumes nothing.
 use native.Mathlib.Omega.{arith}
 use borrow.Author.Needs.{needs}
-use Rattle.model.proofs.SoundHolds.{sound-header}
+use Rattle.laws.proofs.SoundHolds.{sound-header}
 use Rattle.leaping.proofs.ClockRuns.{run-long}
 use Rattle.leaping.proofs.Soonest.{no-date, some-date, dated-inside, date-later}
 use Rattle.leaping.proofs.until_date.Statement.{statement}

@@ -4,7 +4,7 @@ use Prim.Native.Nat.{ℕ}
 use native.Mathlib.Omega.{arith}
 use mathlib.Core.Bool.{true, false}
 use Rattle.model.specs.Kinds.{kindAt, waitsIn, linked}
-use Rattle.model.proofs.KindLaws.{in-none}
+use Rattle.laws.proofs.KindLaws.{in-none}
 use Rattle.links.proofs.StoppedKinds.{same-stops, other-stops}
 use Rattle.links.proofs.Extracting.{in-words, kind-is, stop-idle}
 use borrow.Author.Needs.{needs}

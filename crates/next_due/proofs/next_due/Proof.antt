@@ -10,7 +10,7 @@ use Rattle.calendar.specs.Calendar.{allOf}
 use Rattle.model.specs.declared.Chain.the-variants.{ByTicks}
 use Rattle.model.specs.Kinds.{waitsIn}
 use Rattle.model.specs.Directives.{firstTests}
-use Rattle.model.proofs.ListLaws.{passed, failed}
+use Rattle.laws.proofs.ListLaws.{passed, failed}
 use Rattle.next_due.proofs.FirstTests.{refused-room, refused-above, refused-kind, refused-wait, is-long, none-waits, first-waits}
 use Rattle.next_due.proofs.next_due.Statement.{statement}
 use Rattle.next_due.proofs.next_due.Tie as tie

@@ -1,7 +1,7 @@
 -- `opening::open_timer` meets its contract: the rules are tried in their order. Assumes nothing.
 use borrow.Author.Needs.{needs}
 use mathlib.Core.Path.{refl}
-use Rattle.model.specs.declared.Status.the-variants.{InvalidId, NotSound}
+use Rattle.model.specs.declared.Status.the-variants.{NotSound}
 use Rattle.answers.proofs.Replies.{Tested, tested, not-same}
 use Rattle.answers.proofs.Openings.{goes-on, stops}
 use Rattle.opening.proofs.Ids.{named, unknown}
@@ -21,7 +21,7 @@ named-requires : tie.Need-named-requires
 named-requires c κs = sure c .ok
 
 returns-2 : tie.Need-returns-2
-returns-2 c = stops InvalidId 1 (sure (c .before .before) .rule, tt) (unknown _ _ (c .before .named .ensures) (c .if2 .taken)) refl
+returns-2 c = unknown (sure (c .before .before)) (c .before .named .ensures) (c .if2 .taken)
 
 returns-3 : tie.Need-returns-3
 returns-3 c = goes-on (named (sure (c .before .before) .ok) (c .before .named .ensures) (c .if2 .left))

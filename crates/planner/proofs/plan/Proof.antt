@@ -7,14 +7,14 @@ use Prim.Native.Nat.{ℕ, _≤_, _/_}
 use native.Mathlib.Omega.{arith}
 use lib.ListN.{length, take, drop}
 use lib.Seq.{length-take-le}
-use Rattle.model.proofs.StatusLaws.{not-zero}
+use Rattle.laws.proofs.StatusLaws.{not-zero}
 use Rattle.plans.specs.Plans.{jobsOf, withinLimits}
 use Rattle.plans.specs.Checker.{statusOf, checked}
 use Rattle.plans.proofs.Limits.{limits-within, limits-jobs}
 use Rattle.planner.specs.Proposal.{proposal}
 use Rattle.planner.specs.Planner.{exported}
 use Rattle.planner.proofs.Theorems.{plan-outside, plan-short, plan-none, plan-some, refused, proposes, exactly, proposal-length}
-use Rattle.model.proofs.ListLaws.{failed, passed}
+use Rattle.laws.proofs.ListLaws.{failed, passed}
 use Rattle.planner.proofs.plan.Statement.{statement}
 use Rattle.planner.proofs.plan.Tie as tie
 

@@ -15,7 +15,7 @@ use Rattle.plans.specs.Parts.{bookedFrom}
 use Rattle.plans.proofs.Limits.{jobs-facts, job-facts}
 use Rattle.plans.proofs.Bookings.{from-start, from-before, from-end}
 use Rattle.plans.proofs.Checking.{none-accepted, one-more, too-late, not-clear, rejected, Firsts, firsts-of, lowered}
-use Rattle.model.proofs.ListLaws.{failed, passed}
+use Rattle.laws.proofs.ListLaws.{failed, passed}
 use Rattle.plans.proofs.all_fit.Statement.{statement}
 use Rattle.plans.proofs.all_fit.Tie as tie
 

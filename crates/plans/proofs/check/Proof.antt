@@ -7,7 +7,7 @@ use lib.ListN.{length}
 use Rattle.plans.specs.Plans.{jobsOf, withinLimits}
 use Rattle.plans.proofs.Limits.{limits-within, limits-jobs}
 use Rattle.plans.proofs.Verdicts.{outside, not-one-each, not-accepted, accepted}
-use Rattle.model.proofs.ListLaws.{failed, passed}
+use Rattle.laws.proofs.ListLaws.{failed, passed}
 use Rattle.plans.proofs.check.Statement.{statement}
 use Rattle.plans.proofs.check.Tie as tie
 

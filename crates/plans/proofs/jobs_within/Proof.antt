@@ -7,11 +7,11 @@ use Prim.Native.Nat.{_≤_, _*_, _-_}
 use native.Mathlib.Omega.{arith}
 use lib.ListN.{length, drop, drop-of-length-le}
 use Rattle.model.specs.Lists.{every}
-use Rattle.model.proofs.ListLaws.{clash}
+use Rattle.laws.proofs.ListLaws.{clash}
 use Rattle.plans.specs.Plans.{jobsOf, jobWithin}
 use Rattle.plans.specs.Parts.{jobAt}
 use Rattle.plans.proofs.Limits.{not-jobs, facts-jobs, jobs-from, jobs-length}
-use Rattle.model.proofs.ListLaws.{failed, passed}
+use Rattle.laws.proofs.ListLaws.{failed, passed}
 use Rattle.plans.proofs.jobs_within.Statement.{statement}
 use Rattle.plans.proofs.jobs_within.Tie as tie
 

@@ -5,7 +5,7 @@ use mathlib.Core.Path.{refl}
 use Prim.Native.Nat.{ℕ}
 use native.Mathlib.Omega.{arith}
 use Rattle.model.specs.declared.Status.the-variants.{IncorrectState, NotSound}
-use Rattle.model.proofs.SoundHolds.{sound-header}
+use Rattle.laws.proofs.SoundHolds.{sound-header}
 use Rattle.answers.proofs.Replies.{Tested, tested, not-same, refuses, done}
 use Rattle.server.proofs.Serving.{server-up, server-down, initiated-is}
 use Rattle.server.proofs.initiate_server.Statement.{statement}

@@ -26,7 +26,7 @@ returns c = refuses-as _ _ (c .before .before .open-server .ensures) (c .enum-to
 
 start-for-ticks-requires : tie.Need-start-for-ticks-requires
 start-for-ticks-requires c κs =
-    let told = c .before in told .before .before .open-server .ensures .holds _ (told .enum-told .given .1) .ok
+    let told = c .before in told .before .before .open-server .ensures .holds _ (told .enum-told .given .1) .member .ok
 
 same-length-2 : tie.Need-same-length-2
 same-length-2 c = search needs

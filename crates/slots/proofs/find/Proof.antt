@@ -3,7 +3,7 @@
 use mathlib.Core.Path.{_≡_, refl, _∙_, sym}
 use Prim.Native.Nat.{suc, _-_}
 use native.Mathlib.Omega.{arith}
-use Rattle.model.proofs.SoundHolds.{Header, sound-header}
+use Rattle.laws.proofs.SoundHolds.{Header, sound-header}
 use Rattle.slots.specs.Search.{lowestIn}
 use Rattle.slots.proofs.Laws.{find-here, find-on, find-none}
 use Rattle.slots.proofs.find.Statement.{statement}

@@ -10,10 +10,10 @@ use lib.Dec.{eqb}
 use Rattle.model.specs.declared.Status.the-variants.{InvalidId, InvalidAddress, NotDefined, InvalidClock}
 use Rattle.model.specs.Directives.{notAhead}
 use Rattle.model.specs.Words.{read}
-use Rattle.model.proofs.SoundHolds.{sound-header}
+use Rattle.laws.proofs.SoundHolds.{sound-header}
 use Rattle.answers.proofs.Replies.{clock-unset, clock-running}
 use Rattle.opening.specs.Ids.{Named}
-use Rattle.opening.proofs.Ids.{named, unknown}
+use Rattle.opening.proofs.Ids.{named, not-known}
 use Rattle.starting.proofs.Dates.{not-a-date, past-date, later-date, dated-is}
 use Rattle.starting.proofs.Starts.{start-refuses, start-done}
 use Rattle.starting.proofs.start_for_date.Statement.{statement}
@@ -48,7 +48,8 @@ later y =
 abbrev ahead : tie.Else4 → tie.Else3
 ahead d = d .before .before .before
 
-at : (d : tie.Else4) → Named (t (ready (told (ahead d)) .before)) (ready (told (ahead d)) .before .before .before .before .args .id) (d .before .named .result)
+at : (d : tie.Else4) → Named (t (ready (told (ahead d)) .before)) (ready (told (ahead d)) .before .before .before .before .args .party)
+    (ready (told (ahead d)) .before .before .before .before .args .id) (d .before .named .result)
 at d = named (ready (told (ahead d)) .before .before .before .before .pre) (d .before .named .ensures) (d .if4 .left)
 
 -- ---- the needs
@@ -97,7 +98,7 @@ returns-5 : tie.Need-returns-5
 returns-5 c =
     let y = c .before .before .before in
     let x = ready (told y) in
-    start-refuses _ _ _ _ _ _ _ InvalidId 3 (set (x .before), (used x, (later y, tt))) (unknown _ _ (c .before .named .ensures) (c .if4 .taken)) refl
+    start-refuses _ _ _ _ _ _ _ InvalidId 3 (set (x .before), (used x, (later y, tt))) (not-known _ _ _ (c .before .named .ensures) (c .if4 .taken)) refl
 
 start-requires : tie.Need-start-requires
 start-requires c κs = at (c .before) .place

@@ -11,7 +11,7 @@ use Rattle.model.specs.declared.Status.the-variants.{InvalidId, InvalidAddress,
 use Rattle.model.specs.Directives.{started}
 use Rattle.model.specs.Words.{read}
 use Rattle.opening.specs.Ids.{Named}
-use Rattle.opening.proofs.Ids.{named, unknown, at-index}
+use Rattle.opening.proofs.Ids.{named, not-known, at-index}
 use Rattle.starting.proofs.Starts.{start-refuses, start-done}
 use Rattle.starting.proofs.start_for_ticks.Statement.{statement}
 use Rattle.starting.proofs.start_for_ticks.Tie as tie
@@ -29,7 +29,7 @@ some-routine x = ne-eqb _ 0 (x .if2 .left)
 abbrev tried : tie.Else3 → tie.Else2
 tried d = d .before .before .before
 
-at : (d : tie.Else3) → Named (tried d .before .before .before .args .table .now) (tried d .before .before .before .args .id) (d .before .named .result)
+at : (d : tie.Else3) → Named (tried d .before .before .before .args .table .now) (tried d .before .before .before .args .party) (tried d .before .before .before .args .id) (d .before .named .result)
 at d = named (tried d .before .before .before .pre) (d .before .named .ensures) (d .if3 .left)
 
 -- ---- the needs
@@ -49,7 +49,7 @@ same-length c = search needs
 returns-3 : tie.Need-returns-3
 returns-3 c =
     let x = c .before .before .before in
-    start-refuses _ _ _ _ _ _ _ InvalidId 2 (some-ticks (x .before), (some-routine x, tt)) (unknown _ _ (c .before .named .ensures) (c .if3 .taken)) refl
+    start-refuses _ _ _ _ _ _ _ InvalidId 2 (some-ticks (x .before), (some-routine x, tt)) (not-known _ _ _ (c .before .named .ensures) (c .if3 .taken)) refl
 
 start-requires : tie.Need-start-requires
 start-requires c κs = at (c .before) .place

@@ -1,23 +1,28 @@
 -- `starts::fire_every` meets its contract: behind its opening it is the start of its mode. Assumes nothing.
 use mathlib.Core.Path.{refl, _∙_}
 use borrow.Author.Needs.{needs}
-use Rattle.model.specs.declared.Status.the-variants.{NotSound}
-use Rattle.answers.proofs.Replies.{tested, not-same, refuses}
+use Rattle.answers.proofs.Openings.{refuses-as}
 use Rattle.starts.proofs.Opened.{every-is}
 use Rattle.starts.proofs.fire_every.Statement.{statement}
 use Rattle.starts.proofs.fire_every.Tie as tie
 
-is-sound-requires : tie.Need-is-sound-requires
-is-sound-requires c κs = search needs
+open-party-requires : tie.Need-open-party-requires
+open-party-requires c κs = search needs
+
+enum-told : tie.Need-enum-told
+enum-told c = search needs
+
+enum-told-2 : tie.Need-enum-told-2
+enum-told-2 c = search needs
 
 same-length : tie.Need-same-length
 same-length c = search needs
 
 returns : tie.Need-returns
-returns c = refuses _ _ NotSound 0 tt (not-same (c .before .is-sound .ensures) (c .if1 .taken)) refl
+returns c = refuses-as _ _ (c .before .before .open-party .ensures) (c .enum-told2 .given .1) _ refl refl
 
 start-for-ticks-requires : tie.Need-start-for-ticks-requires
-start-for-ticks-requires c κs = let opened = c .before in tested (opened .before .is-sound .ensures) (opened .if1 .left) .ok
+start-for-ticks-requires c κs = let told = c .before in told .before .before .open-party .ensures .holds _ (told .enum-told .given .1) .ok
 
 same-length-2 : tie.Need-same-length-2
 same-length-2 c = search needs
@@ -25,9 +30,10 @@ same-length-2 c = search needs
 returns-2 : tie.Need-returns-2
 returns-2 c =
     let started = c .before .before in
-    let opened = started .before .before in
-    let ok = tested (opened .before .is-sound .ensures) (opened .if1 .left) .ok in
-    started .start-for-ticks .ensures ∙ every-is _ ok _ _ _ _
+    let told = started .before .before in
+    started .start-for-ticks .ensures ∙ every-is (told .before .before .open-party .ensures .holds _ (told .enum-told .given .1)) _ _ _ _
 
 pub fire-every-spec : {M : Type 1} → statement M
-fire-every-spec = tie.close (tie.spec is-sound-requires same-length returns start-for-ticks-requires same-length-2 returns-2)
+fire-every-spec =
+    tie.close
+    (tie.spec open-party-requires enum-told enum-told-2 same-length returns start-for-ticks-requires same-length-2 returns-2)

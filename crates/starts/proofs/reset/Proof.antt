@@ -19,7 +19,7 @@ module _ (o : tie.After-opened) where
   abbrev t : List ℕ
   t = o .before .before .before .before .before .args .table .now
 
-  at : Named t (o .before .before .before .before .before .args .id) (o .opened .given .0 .0)
+  at : Named t (o .before .before .before .before .before .args .party) (o .before .before .before .before .before .args .id) (o .opened .given .0 .0)
   at = o .before .before .open-timer .ensures .holds _ (o .opened .given .1)
 
 -- ---- the needs
@@ -51,7 +51,7 @@ same-length-2 c = search needs
 returns-2 : tie.Need-returns-2
 returns-2 c =
     let x = at (c .before .before .before .before .before) in
-    refuses _ _ NotDefined 2 (x .tested, (x .rule, tt))
+    refuses _ _ NotDefined 3 (x .member .tested, (x .member .rule, (x .rule, tt)))
     (not-same (timed x (c .before .before .get .ensures) (c .before .was-by-ticks .ensures)) (c .if1 .taken)) refl
 
 last-mode-requires : tie.Need-last-mode-requires
@@ -82,7 +82,7 @@ returns-3 c =
     let kind = again .before .before in
     let x = at (kind .before .before .before) in
     let by-ticks = not-same (timed x (kind .get .ensures) (again .before .was-by-ticks .ensures)) (again .if1 .left) in
-    done _ _ (0 ∷ []) _ [] (x .tested, (x .rule, (by-ticks, tt))) refl
+    done _ _ (0 ∷ []) _ [] (x .member .tested, (x .member .rule, (x .rule, (by-ticks, tt)))) refl
     (reset-is x (kind .get .ensures) (mode .last-mode .ensures) (c .before .before .start .ensures)
     (ticks .get2 .ensures) (routine .get3 .ensures) (user .get4 .ensures)) refl
 

@@ -23,11 +23,11 @@ module _ (o : tie.After-opened) where
   abbrev t : List ℕ
   t = o .before .before .before .before .before .args .table .now
 
-  at : Named t (o .before .before .before .before .before .args .id) (o .opened .given .0 .0)
+  at : Named t (o .before .before .before .before .before .args .party) (o .before .before .before .before .before .args .id) (o .opened .given .0 .0)
   at = o .before .before .open-timer .ensures .holds _ (o .opened .given .1)
 
 -- the kind is that of the slot at the id's index
-linked-at : {t : List ℕ} {id i : ℕ} → Named t id i → linked (slotAt (read t .slots) i .kind) ≡ linked (slotAt (read t .slots) (indexOf id) .kind)
+linked-at : {t : List ℕ} {party id i : ℕ} → Named t party id i → linked (slotAt (read t .slots) i .kind) ≡ linked (slotAt (read t .slots) (indexOf id) .kind)
 linked-at {t} at = ap (λ (k : ℕ). linked (slotAt (read t .slots) k .kind)) (at .index)
 
 -- ---- the needs
@@ -59,7 +59,7 @@ returns-2 c =
     let o = stop .before .before .before in
     let same = stays-unlinked (at o .place) (sym (stop .stop .ensures .1) ∙ not-true (stop .stop .result) (c .if1 .taken)) (stop .stop .ensures .0) in
     (λ j. outcomeOf 14 (0 ∷ []) (same j) [])
-    ∙ refuses _ _ IncorrectState 2 (at o .tested, (at o .rule, tt)) (not-same (stop .stop .ensures .1 ∙ linked-at (at o)) (c .if1 .taken)) refl
+    ∙ refuses _ _ IncorrectState 3 (at o .member .tested, (at o .member .rule, (at o .rule, tt))) (not-same (stop .stop .ensures .1 ∙ linked-at (at o)) (c .if1 .taken)) refl
 
 same-length-3 : tie.Need-same-length-3
 same-length-3 c = search needs
@@ -68,7 +68,7 @@ returns-3 : tie.Need-returns-3
 returns-3 c =
     let stop = c .before .before .before in
     let o = stop .before .before .before in
-    done _ _ (0 ∷ []) _ [] (at o .tested, (at o .rule, (not-same (stop .stop .ensures .1 ∙ linked-at (at o)) (c .if1 .left), tt))) refl
+    done _ _ (0 ∷ []) _ [] (at o .member .tested, (at o .member .rule, (at o .rule, (not-same (stop .stop .ensures .1 ∙ linked-at (at o)) (c .if1 .left), tt)))) refl
     (at-index (stoppedAt (t o)) (at o) (stop .stop .ensures .0)) refl
 
 pub cancel-spec : {M : Type 1} → statement M

@@ -20,7 +20,7 @@ module _ (o : tie.After-opened) where
   abbrev t : List ℕ
   t = o .before .before .before .before .before .args .table .now
 
-  at : Named t (o .before .before .before .before .before .args .id) (o .opened .given .0 .0)
+  at : Named t (o .before .before .before .before .before .args .party) (o .before .before .before .before .before .args .id) (o .opened .given .0 .0)
   at = o .before .before .open-timer .ensures .holds _ (o .opened .given .1)
 
 -- ---- the needs
@@ -55,7 +55,7 @@ returns-2 : tie.Need-returns-2
 returns-2 c =
     let stop = c .before .before .before .before .before .before in
     let o = stop .before .before .before in
-    done _ _ (0 ∷ []) _ [] (at o .tested, (at o .rule, tt)) refl
+    done _ _ (0 ∷ []) _ [] (at o .member .tested, (at o .member .rule, (at o .rule, tt))) refl
     (at-index (λ k. stopped (read (t o)) k free) (at o) (deleted-is (at o .place) (stop .stop .ensures .0) (c .before .before .store .ensures))) refl
 
 pub delete-spec : {M : Type 1} → statement M

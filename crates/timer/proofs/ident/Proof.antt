@@ -2,60 +2,66 @@
 use borrow.Author.Needs.{needs}
 use borrow.Author.Tests.{eq-eqb, ne-eqb}
 use mathlib.Core.List.{List, []}
-use mathlib.Core.Path.{refl}
+use mathlib.Core.Path.{refl, sym}
 use Prim.Native.Nat.{ℕ}
 use native.Mathlib.Omega.{arith}
-use Rattle.model.specs.declared.Status.the-variants.{InvalidName, NotSound}
-use Rattle.model.proofs.SoundHolds.{sound-header}
-use Rattle.answers.proofs.Replies.{Tested, tested, not-same, refuses, done, same-table}
-use Rattle.timer.proofs.Lookups.{none-found, some-found, id-found, is-named, name-high}
+use Rattle.model.specs.declared.Status.the-variants.{InvalidName}
+use Rattle.laws.proofs.SoundHolds.{sound-header}
+use Rattle.answers.proofs.Replies.{refuses, done, same-table}
+use Rattle.answers.proofs.Openings.{refuses-as}
+use Rattle.opening.specs.Parties.{Member}
+use Rattle.timer.proofs.Lookups.{none-found, some-found, id-found, name-high}
 use Rattle.timer.proofs.ident.Statement.{statement}
 use Rattle.timer.proofs.ident.Tie as tie
 
--- ---- the table is sound
+-- ---- the caller is a party
 
-abbrev t : tie.Else1 → List ℕ
-t b = b .before .before .before .args .table .now
+module _ (o : tie.After-enum-told) where
+  abbrev t : List ℕ
+  t = o .before .before .before .before .args .table .now
 
-sure : (b : tie.Else1) → Tested (t b)
-sure b = tested (b .before .is-sound .ensures) (b .if1 .left)
+  by : Member t (o .before .before .before .before .args .party)
+  by = o .before .before .open-party .ensures .holds _ (o .enum-told .given .1)
 
 -- ---- the needs
 
-is-sound-requires : tie.Need-is-sound-requires
-is-sound-requires c κs = search needs
+open-party-requires : tie.Need-open-party-requires
+open-party-requires c κs = search needs
+
+enum-told : tie.Need-enum-told
+enum-told c = search needs
+
+enum-told-2 : tie.Need-enum-told-2
+enum-told-2 c = search needs
 
 returns : tie.Need-returns
-returns c = refuses _ _ NotSound 0 tt (not-same (c .before .is-sound .ensures) (c .if1 .taken)) refl
+returns c = refuses-as _ _ (c .before .before .open-party .ensures) (c .enum-told2 .given .1) _ refl refl
 
 returns-2 : tie.Need-returns-2
-returns-2 c = refuses _ _ InvalidName 1 (sure (c .before) .rule, tt) (eq-eqb _ 0 (c .if2 .taken)) refl
+returns-2 c = let m = by (c .before) in refuses _ _ InvalidName 2 (m .tested, (m .rule, tt)) (eq-eqb _ 0 (c .if1 .taken)) refl
 
-shared-slice-read-find : tie.Need-shared-slice-read-find
-shared-slice-read-find c = let b = c .before .before in omega (arith, sound-header (t b) (sure b .ok))
-
-find-requires : tie.Need-find-requires
-find-requires c κs = (sure (c .before .before) .ok, omega arith, omega arith)
+slot-called-requires : tie.Need-slot-called-requires
+slot-called-requires c κs = let m = by (c .before) in (m .ok, m .is)
 
 returns-3 : tie.Need-returns-3
 returns-3 c =
-    let b = c .before .before .before .before in
-    refuses _ _ InvalidName 2 (sure b .rule, (ne-eqb _ 0 (c .before .before .before .if2 .left), tt))
-    (none-found (is-named (t b) _ (c .before .find .ensures)) (c .if3 .taken)) refl
+    let m = by (c .before .before .before) in
+    refuses _ _ InvalidName 3 (m .tested, (m .rule, (ne-eqb _ 0 (c .before .before .if1 .left), tt)))
+    (none-found (sym (c .before .slot-called .ensures)) (c .if2 .taken)) refl
 
 add-t9 : tie.Need-add-t9
 add-t9 c =
-    let b = c .before .before .before .before in
-    omega (arith, name-high (t b) _ (is-named (t b) _ (c .before .find .ensures)) (c .if3 .left), sound-header (t b) (sure b .ok) .few)
+    let o = c .before .before .before in
+    omega (arith, name-high (t o) _ _ (sym (c .before .slot-called .ensures)) (c .if2 .left), sound-header (t o) (by o .ok) .few)
 
 returns-4 : tie.Need-returns-4
 returns-4 c =
-    let b = c .before .before .before .before in
-    let is = is-named (t b) _ (c .before .find .ensures) in
-    done _ _ _ _ [] (sure b .rule, (ne-eqb _ 0 (c .before .before .before .if2 .left), (some-found is (c .if3 .left), tt))) (id-found is)
-    (same-table _ (sure b .ok)) refl
+    let m = by (c .before .before .before) in
+    let is = sym (c .before .slot-called .ensures) in
+    done _ _ _ _ [] (m .tested, (m .rule, (ne-eqb _ 0 (c .before .before .if1 .left), (some-found is (c .if2 .left), tt)))) (id-found is)
+    (same-table _ (m .ok)) refl
 
 pub ident-spec : {M : Type 1} → statement M
 ident-spec =
     tie.close
-    (tie.spec is-sound-requires returns returns-2 shared-slice-read-find find-requires returns-3 add-t9 returns-4)
+    (tie.spec open-party-requires enum-told enum-told-2 returns returns-2 slot-called-requires returns-3 add-t9 returns-4)

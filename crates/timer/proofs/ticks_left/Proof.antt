@@ -21,7 +21,7 @@ module _ (o : tie.After-opened) where
   abbrev t : List ℕ
   t = o .before .before .before .before .args .table .now
 
-  at : Named t (o .before .before .before .before .args .id) (o .opened .given .0 .0)
+  at : Named t (o .before .before .before .before .args .party) (o .before .before .before .before .args .id) (o .opened .given .0 .0)
   at = o .before .before .open-timer .ensures .holds _ (o .opened .given .1)
 
 -- ---- it waits for ticks, or it does not
@@ -53,7 +53,7 @@ waits-for-ticks-requires c κs = search needs
 returns-2 : tie.Need-returns-2
 returns-2 c =
     let x = at (c .before .before .before .before) in
-    done _ _ (0 ∷ []) _ [] (x .tested, (x .rule, tt)) (no-ticks x (sym (asked (c .before)) ∙ not-true _ (c .if1 .taken))) (sym (x .place .holds .is)) refl
+    done _ _ (0 ∷ []) _ [] (x .member .tested, (x .member .rule, (x .rule, tt))) (no-ticks x (sym (asked (c .before)) ∙ not-true _ (c .if1 .taken))) (sym (x .place .holds .is)) refl
 
 ticks-to-requires : tie.Need-ticks-to-requires
 ticks-to-requires c κs =
@@ -63,7 +63,7 @@ ticks-to-requires c κs =
 returns-3 : tie.Need-returns-3
 returns-3 c =
     let x = at (c .before .before .before .before .before) in
-    done _ _ (_ ∷ []) _ [] (x .tested, (x .rule, tt)) (some-ticks x (c .ticks-to .ensures)) (sym (x .place .holds .is)) refl
+    done _ _ (_ ∷ []) _ [] (x .member .tested, (x .member .rule, (x .rule, tt))) (some-ticks x (c .ticks-to .ensures)) (sym (x .place .holds .is)) refl
 
 pub ticks-left-spec : {M : Type 1} → statement M
 ticks-left-spec =

@@ -1,24 +1,11 @@
 -- `word_checks::header_sound` meets its contract: a test that fails contradicts what a sound header says, and the last ones decide.
 -- Assumes nothing.
-use Prim.Native.Nat.{ℕ, _≤_}
-use mathlib.Core.Path.{_≡_, _∙_}
-use mathlib.Core.List.{List}
+use mathlib.Core.Path.{_∙_}
 use native.Mathlib.Omega.{arith}
-use Rattle.model.specs.Words.{word, serverInitiated}
-use Rattle.word_checks.proofs.HeaderTests.{bits-none, none-bits, out-of-range, clock-set, clock-not-set}
+use Rattle.word_checks.proofs.HeaderTests.{out-of-range, clock-set, clock-not-set}
 use borrow.Author.Needs.{needs}
 use Rattle.word_checks.proofs.header_sound.Statement.{statement}
 use Rattle.word_checks.proofs.header_sound.Tie as tie
-
--- ---- the spare word and the server's
-
-abbrev words : tie.Else10 → List ℕ
-words c =
-    let b = c .before .before .before .before .before .before .before .before .before in
-    b .before .before .before .before .before .before .before .before .before .args .t .now
-
-spares : (c : tie.Else10) → (word (words c) 7 ≡ 0) × (serverInitiated (words c) ≤ 1)
-spares c = none-bits (word (words c) 7) (serverInitiated (words c)) (c .if10 .left)
 
 -- ---- the needs
 
@@ -76,17 +63,20 @@ returns-9 c = out-of-range _ (λ r. omega arith)
 shared-slice-read-if10 : tie.Need-shared-slice-read-if10
 shared-slice-read-if10 c = search needs
 
-shared-slice-read-if10-2 : tie.Need-shared-slice-read-if10-2
-shared-slice-read-if10-2 c = search needs
-
 returns-10 : tie.Need-returns-10
-returns-10 c = out-of-range _ (λ r. c .if10 .taken (bits-none _ _ (r .spare) (r .server)))
+returns-10 c = out-of-range _ (λ r. omega arith)
 
 shared-slice-read-if11 : tie.Need-shared-slice-read-if11
 shared-slice-read-if11 c = search needs
 
 returns-11 : tie.Need-returns-11
-returns-11 c = clock-set _ (omega (arith, spares (c .before .before))) (c .if11 .taken)
+returns-11 c = out-of-range _ (λ r. omega arith)
+
+shared-slice-read-if12 : tie.Need-shared-slice-read-if12
+shared-slice-read-if12 c = search needs
+
+returns-12 : tie.Need-returns-12
+returns-12 c = clock-set _ (omega arith) (c .if12 .taken)
 
 shared-slice-read-all-zero : tie.Need-shared-slice-read-all-zero
 shared-slice-read-all-zero c = search needs
@@ -100,10 +90,8 @@ shared-slice-read-all-zero-3 c = search needs
 all-zero-requires : tie.Need-all-zero-requires
 all-zero-requires c κs = search needs
 
-returns-12 : tie.Need-returns-12
-returns-12 c =
-    let b = c .before .before .before .before in
-    c .all-zero .ensures ∙ clock-not-set _ (omega (arith, spares (b .before .before))) (b .if11 .left)
+returns-13 : tie.Need-returns-13
+returns-13 c = c .all-zero .ensures ∙ clock-not-set _ (omega arith) (c .before .before .before .before .if12 .left)
 
 pub header-sound-spec : {M : Type 1} → statement M
 header-sound-spec =
@@ -127,12 +115,13 @@ header-sound-spec =
     shared-slice-read-if9
     returns-9
     shared-slice-read-if10
-    shared-slice-read-if10-2
     returns-10
     shared-slice-read-if11
     returns-11
+    shared-slice-read-if12
+    returns-12
     shared-slice-read-all-zero
     shared-slice-read-all-zero-2
     shared-slice-read-all-zero-3
     all-zero-requires
-    returns-12)
+    returns-13)

@@ -1,0 +1,4 @@
+pub mod Starts
+pub mod Lines
+pub mod Order
+pub mod Parties

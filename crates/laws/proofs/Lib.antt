@@ -1,0 +1,32 @@
+-- The laws, in reading order: of lists, slots and chains; the words of a table and its soundness; what each call keeps; what comes of a call; next due;
+-- the words of a list, leap, statuses.
+pub mod ListLaws
+pub mod StatusLaws
+pub mod Order
+pub mod EachPlace
+pub mod KindLaws
+pub mod WellFormed
+pub mod Slots
+pub mod Chains
+pub mod StateWords
+pub mod ReadBack
+pub mod Shapes
+pub mod SoundHolds
+pub mod HoldsSound
+pub mod ClockSteps
+pub mod FiredSlots
+pub mod PartyLaws
+pub mod Searches
+pub mod GoingOn
+pub mod Steps
+pub mod AcceptedCalls
+pub mod LeapLaws
+pub mod KeptWellFormed
+pub mod OutcomeLaws
+pub mod ClockReadings
+pub mod CallTables
+pub mod NextDue
+pub mod ListWords
+pub mod LeapWords
+pub mod LongestLeap
+pub mod Statuses

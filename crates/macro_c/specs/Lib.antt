@@ -1,0 +1,2 @@
+-- What the exports' contracts cite. Assumes nothing: these are definitions.
+pub mod Exports

@@ -1,0 +1,5 @@
+pub mod Cases
+pub mod RunLaws
+pub mod Signing
+pub mod StepLaws
+pub mod Stopping

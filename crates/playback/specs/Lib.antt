@@ -1,0 +1,2 @@
+-- What the replay's contracts cite. Assumes nothing: these are definitions.
+pub mod Replay

@@ -1,0 +1,2 @@
+-- The proofs: which numbers no arm names.
+pub mod Numbers

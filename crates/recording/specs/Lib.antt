@@ -1,0 +1,2 @@
+-- What the reader's contracts cite. Assumes nothing: these are definitions.
+pub mod Format
