@@ -7,7 +7,7 @@ With a folder, one of installed pages, only the links of those. Else:
 - Every relative link of a Markdown file leads to a file or folder, and one with '#' to a heading there.
 - Every path in backquotes that begins with a folder of the repository is there; '*' stands for any name. But in the notes of
   changes, which tell what was, so is what is named of a crate: a path below it, as `model/specs/Kinds`, or `specs/Kinds` of any; a
-  must-fail edit, as `model/ahead_of_equals`; an item of its code, as `slots::find`.
+  edit in must-fail or edits, as `model/ahead_of_equals`; an item of its code, as `slots::find`.
 - The rows of a table have as many cells as its first one.
 - README.md's table of calls has every call of include/heathcinder.h, each with the statuses that its comment there names, in that
   order; before them 100 where it is a call on a table, and 4 where it is one of a party, behind 101, and once where the id's is the
@@ -83,7 +83,7 @@ def check_crates(page):
     crates, count = "|".join(CRATES), 0
     for crate, path in re.findall(r"`(?:(%s)/|(?=specs/|proofs/))([\w./*-]+)`" % crates, text):
         below = "crates/%s/" % (crate or "*")
-        if not any(any(ROOT.glob(below + form % path.rstrip("/"))) for form in ("%s", "%s.antt", "must-fail/%s.edit")):
+        if not any(any(ROOT.glob(below + form % path.rstrip("/"))) for form in ("%s", "%s.antt", "must-fail/%s.edit", "edits/%s.edit")):
             fail(page, "there is no %s" % (below + path))
         count += 1
     for crate, name in re.findall(r"`(%s)::(\w+)`" % crates, text):

@@ -1,5 +1,5 @@
 #!/usr/bin/env python3
-"""Writes the page of wrong answers, from the must-fail edits and from what the prover said of each in the last `rt ci`:
+"""Writes the page of wrong answers, from the edits and from what the prover said of each in the last `rt ci` and `tests/edits.py`:
 
     python3 tests/wrong_answers.py > docs/wrong-answers.md
 
@@ -13,9 +13,10 @@ ROOT = Path(__file__).resolve().parent.parent
 PAGE = ROOT / "docs" / "wrong-answers.md"
 HEAD = """# Wrong answers
 
-Each row is an edit of the code or of a definition (`crates/CRATE/must-fail/EDIT.edit`) that gives a wrong answer. The gate tries every one, and the
-prover refuses it: at the needs of a function's proof, or at the theorems of a file. What is refused only because it cites something refused is left
-out. Every public function has two wrong answers or more; `model`, `demand`, `isolation` and `order` have no function, and their edits are of definitions.
+Each row is an edit of the code or of a definition (`crates/CRATE/must-fail/EDIT.edit` or `crates/CRATE/edits/EDIT.edit`) that gives a wrong answer. The
+gate tries every one, and the prover refuses it: at the needs of a function's proof, or at the theorems of a file. What is refused only because it cites
+something refused is left out. Every public function has two wrong answers or more; `model`, `demand`, `isolation` and `order` have no function, and
+their edits are of definitions.
 """
 
 
@@ -29,8 +30,11 @@ def crates():
 
 
 def edits(crate):
-    """Name, what it is of, what is wrong, for each edit of a crate."""
-    for path in sorted((ROOT / "crates" / crate / "must-fail").glob("*.edit")):
+    """Name, what it is of, what is wrong, for each edit of a crate: of those that `rt ci` tries and of those that tests/edits.py does."""
+    paths = [*(ROOT / "crates" / crate / "must-fail").glob("*.edit"), *(ROOT / "crates" / crate / "edits").glob("*.edit")]
+    for name in {path.stem for path in paths if sum(path.stem == other.stem for other in paths) > 1}:
+        fail("%s has two edits named %s" % (crate, name))
+    for path in sorted(paths):
         named = re.match(r"# ([^:]+): (.+)\n", path.read_text())
         if not named:
             fail("%s does not begin with '# CONTRACT: WHAT IS WRONG'" % path)
@@ -44,9 +48,10 @@ def public_functions(crate):
 
 def places(crate, edit):
     """Where the prover refused an edit, in the order of its report."""
-    log = ROOT / "target" / "must-fail" / crate / edit / ".log"
-    if not log.exists():
-        fail("no report on %s/%s: run rt ci first" % (crate, edit))
+    logs = ROOT / "target" / "must-fail" / crate / edit / ".log", ROOT / "target" / "edits" / crate / (edit + ".log")
+    log = next(filter(Path.exists, logs), None)
+    if not log:
+        fail("no report on %s/%s: run rt ci and tests/edits.py first" % (crate, edit))
     found = {}
     for line in log.read_text().splitlines():
         error = re.search(r"/(?:proofs|specs)/([^: ]+)\.antt:\d+:\d+: error: `([^`]+)`: (.*)", line)
