@@ -20,10 +20,9 @@ use answers::Setting;
 use calendar::Date;
 use calendar::Instant;
 use calendar::WallTime;
-use firing::fire;
+use firing::fire_dated;
 use going_on::ENTRY;
 use leaping::MOST_LEAP;
-use model::Chain;
 use model::Status;
 use soundness::Verdict;
 use soundness::checked;
@@ -139,7 +138,7 @@ pub fn set_clock(table: &mut [u32], time: WallTime, fired: &mut [u32]) -> Settin
     }
     let moved = move_to(table, second, time.ticks);
     firing::set_clock(table, second, time.ticks);
-    let dated = fire(table, fired, Chain::ByDate, second, 0, end);
+    let dated = fire_dated(table, fired, second, 0, end);
     Setting {
         answer: Answer::Done(dated.count),
         moved: moved,

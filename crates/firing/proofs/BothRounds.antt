@@ -1,6 +1,7 @@
 -- Both rounds of a firing on a table: after the first the entries name the slots of those that came off, so that the second leaves the state that
 -- the model's firing leaves. Assumes nothing.
 use mathlib.Core.Path.{_≡_, refl, sym, ap, ap₂, _∙_, subst}
+use mathlib.Core.Logic.{_≢_}
 use Prim.Native.Nat.{ℕ, zero, suc, _+_, _-_, _*_, _≤_, _<_}
 use native.Mathlib.Omega.{arith}
 use mathlib.Core.Bool.{Bool, false, not}
@@ -14,7 +15,7 @@ use Rattle.model.specs.Lists.{All}
 use Rattle.model.specs.Kinds.{kindAt, forServer}
 use Rattle.model.specs.State.{Link, State, chainOf, slotAt, idBase}
 use Rattle.model.specs.Directives.{due, fire}
-use Rattle.model.specs.Words.{word, read, writtenOver, slotCount}
+use Rattle.model.specs.Words.{word, read, writtenOver, slotCount, waitOf, headWord}
 use Rattle.laws.proofs.ListLaws.{cases, all-keep, all-mapped, length-keep}
 use Rattle.laws.proofs.Chains.{InSlots, in-slots}
 use Rattle.laws.proofs.ReadBack.{slots-length, over-over}
@@ -24,6 +25,7 @@ use Rattle.firing.specs.Lists.{EndsAt, Room, Tally, offAll, dueListed, T
 use Rattle.going_on.specs.GoingBack.{wentBack, backAll, slotsIn, Entries}
 use Rattle.links.specs.Places.{lastSlot}
 use Rattle.firing.proofs.TwoRounds.{slotsOf, length-offAll, chained-between, two-rounds, one-round}
+use Rattle.firing.proofs.TakingOff.{taking-start, taking-none, taking-front, taking-later}
 use Rattle.firing.proofs.Entries.{slots-written}
 
 -- what holds of all slots that entries name
@@ -129,3 +131,14 @@ module _ {k : Chain} {t l : List ℕ} {limit from end : ℕ} (r : Room k t l lim
           (sym (next-holds off-next .is));
       entries = f .entries;
     }
+
+-- none fires where the chain is empty, or its first timer is not due
+module _ {k : Chain} {t l : List ℕ} {limit from end : ℕ} (r : Room k t l limit from end) {i : ℕ} (first : i ≡ word t (headWord k)) where
+  pub fires-none : i ≡ 0 → Fires k t l limit from from end t l
+  fires-none e = fires-off r (taking-none (taking-start r first) e) refl
+
+  pub first-high : i ≢ 0 → 8 * i + 10 ≤ length t
+  first-high some = omega (arith, taking-front (taking-start r first) some .high, r .holds .long)
+
+  pub fires-later : i ≢ 0 → {w : ℕ} → w ≡ waitOf t i → limit < w → Fires k t l limit from from end t l
+  fires-later some is p = fires-off r (taking-later (taking-start r first) some is p) refl

@@ -7,6 +7,7 @@ ghost use mathlib.Core.List.{[], _∷_};
 ghost use Prim.Native.Nat.{_+_, _*_, _<_, _≤_};
 ghost use lib.ListN.{length};
 ghost use lib.Seq.{sets};
+ghost use Rattle.model.specs.declared.Chain.the-variants.{ByTicks, ByDate};
 ghost use Rattle.model.specs.State.{withClock};
 ghost use Rattle.model.specs.Directives.{clockAt, clockStep};
 ghost use Rattle.model.specs.Words.{read, writtenOver, ticksInto};
@@ -133,7 +134,7 @@ pub struct Fired {
 
 // The timers at the front of a chain whose wait is not above the limit fire: server timers go to the back of the queue, whose last slot is `end`, 0
 // where that is empty, and the others are listed, as entries from `from` on.
-pub fn fire(t: &mut [u32], list: &mut [u32], chain: Chain, limit: u32, from: u32, end: u32) -> Fired
+fn fire(t: &mut [u32], list: &mut [u32], chain: Chain, limit: u32, from: u32, end: u32) -> Fired
     requires { ⌜ Room chain (now t) (now list) limit from end ⌝ }
     ensures { λ r. ⌜ Fires chain (now (t .entry)) (now (list .entry)) limit from (r .count) (r .end) (now (t .exit)) (now (list .exit)) ⌝ }
 {
@@ -147,6 +148,43 @@ pub fn fire(t: &mut [u32], list: &mut [u32], chain: Chain, limit: u32, from: u32
         count: n,
         end: last,
     }
+}
+
+// The interval timers with no ticks left fire. In most ticks there are none, which is seen here, where the compiler makes no call of it.
+pub fn fire_ticking(t: &mut [u32], list: &mut [u32], end: u32) -> Fired
+    requires { ⌜ Room ByTicks (now t) (now list) 0 0 end ⌝ }
+    ensures { λ r. ⌜ Fires ByTicks (now (t .entry)) (now (list .entry)) 0 0 (r .count) (r .end) (now (t .exit)) (now (list .exit)) ⌝ }
+{
+    let none = Fired { count: 0, end: end };
+    let first = follower(t, Chain::ByTicks, 0);
+    if first == 0 {
+        return none;
+    }
+    let left = get(t, first, WAIT);
+    if 0 < left {
+        return none;
+    }
+    fire(t, list, Chain::ByTicks, 0, 0, end)
+}
+
+// The dated timers whose date is not past this second fire, as entries from `from` on; in most ticks there are none.
+pub fn fire_dated(t: &mut [u32], list: &mut [u32], second: u32, from: u32, end: u32) -> Fired
+    requires { ⌜ Room ByDate (now t) (now list) second from end ⌝ }
+    ensures { λ r. ⌜ Fires ByDate (now (t .entry)) (now (list .entry)) second from (r .count) (r .end) (now (t .exit)) (now (list .exit)) ⌝ }
+{
+    let none = Fired {
+        count: from,
+        end: end,
+    };
+    let first = follower(t, Chain::ByDate, 0);
+    if first == 0 {
+        return none;
+    }
+    let date = get(t, first, WAIT);
+    if second < date {
+        return none;
+    }
+    fire(t, list, Chain::ByDate, second, from, end)
 }
 
 // Every interval timer comes some ticks nearer: the first one's wait falls, and those behind it count from it.

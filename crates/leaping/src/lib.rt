@@ -11,9 +11,9 @@ ghost use Rattle.model.specs.Sound.{sound};
 ghost use Rattle.firing.specs.Lists.{Leaves};
 ghost use Rattle.leaping.specs.Leaps.{clockOn, skipped, untilTicks, untilDate, untilDue, Ready, LeapLeaves};
 use firing::come_nearer;
-use firing::fire;
+use firing::fire_dated;
+use firing::fire_ticking;
 use firing::step_clock;
-use model::Chain;
 use table::CLOCK_SET;
 use table::FIRST_DATED;
 use table::FIRST_TICKING;
@@ -30,12 +30,12 @@ pub fn tick(t: &mut [u32], list: &mut [u32], end: u32) -> u32
     ensures { λ r. ⌜ Leaves (now (t .entry)) (now (list .entry)) (ticked (read (now (t .entry)))) r (now (t .exit)) (now (list .exit)) ⌝ }
 {
     come_nearer(t, 1);
-    let ticking = fire(t, list, Chain::ByTicks, 0, 0, end);
+    let ticking = fire_ticking(t, list, end);
     step_clock(t);
     let second = t[SECONDS];
     let listed = ticking.count;
     let last = ticking.end;
-    let dated = fire(t, list, Chain::ByDate, second, listed, last);
+    let dated = fire_dated(t, list, second, listed, last);
     dated.count
 }
 

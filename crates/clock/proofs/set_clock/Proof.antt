@@ -105,8 +105,8 @@ move-to-requires c κs = lent (c .before .before .before .before .before .before
 set-clock-requires : tie.Need-set-clock-requires
 set-clock-requires c κs = sound-holds _ (lent (c .before .before .before .before .before .before .before .before .before .before .before) .ok)
 
-fire-requires : tie.Need-fire-requires
-fire-requires c κs =
+fire-dated-requires : tie.Need-fire-dated-requires
+fire-dated-requires c κs =
     let moved = c .before .before .before .before in
     let l = lent (opened (tested moved)) in
     moved-room _ _ (l .ok) (l .long) (l .last) _ _ (moved .set-clock .ensures) _ refl _ (λ e. clash (sym (ap (sameChain ByTicks) e)))
@@ -128,9 +128,9 @@ returns-4 c =
     let l = lent o in
     let to = told .before .before .to-seconds .ensures in
     let got = told .second .given .1 in
-    let done : outcomeOf 0 (fired .fire .result .count ∷ []) (fired .fire .last .0) (fired .fire .last .1 .0) ≡ outcome (t o) (setClock (time o) (list o)) =
+    let done : outcomeOf 0 (fired .fire-dated .result .count ∷ []) (fired .fire-dated .last .0) (fired .fire-dated .last .1 .0) ≡ outcome (t o) (setClock (time o) (list o)) =
     set-clock-done (t o) (time o) (list o) (l .tested, (l .rule, (is-clock (t o) (time o) to got (b .if1 .left), tt))) (second-is (time o) to got)
-    (moved-is _ _ (l .ok) (l .long) (l .last) _ _ (moved .set-clock .ensures) (fired .fire .ensures)) refl refl in (
+    (moved-is _ _ (l .ok) (l .long) (l .last) _ _ (moved .set-clock .ensures) (fired .fire-dated .ensures)) refl refl in (
       done,
       accepted-moves (t o) (time o) (list o) done (second-is (time o) to got)
           (toZ-ofZ w64 (far .move-to .result) (sfits-of (far .move-to .ok)) ∙ far .move-to .ensures),
@@ -158,7 +158,7 @@ set-clock-spec =
     returns-3
     move-to-requires
     set-clock-requires
-    fire-requires
+    fire-dated-requires
     same-length-7
     same-length-8
     returns-4)

@@ -19,11 +19,11 @@ use Rattle.leaping.proofs.tick.Tie as tie
 abbrev start : tie.After-come-nearer → tie.Start
 start near = near .before .before .before .before
 
-abbrev near : tie.After-fire → tie.After-come-nearer
+abbrev near : tie.After-fire-ticking → tie.After-come-nearer
 near fired = fired .before .before .before .before .before
 
 module _ (clock : tie.After-step-clock) where
-  abbrev fired : tie.After-fire
+  abbrev fired : tie.After-fire-ticking
   fired = clock .before .before .before .before .before .before
 
   abbrev entry : tie.Start
@@ -32,18 +32,18 @@ module _ (clock : tie.After-step-clock) where
   stepped-long : 10 ≤ length (clock .step-clock .last .0)
   stepped-long =
       let r = entry .pre in
-      clock-long _ _ (r .ok) (r .long) (r .last) (near fired .come-nearer .ensures) (fired .fire .ensures) (clock .step-clock .ensures)
+      clock-long _ _ (r .ok) (r .long) (r .last) (near fired .come-nearer .ensures) (fired .fire-ticking .ensures) (clock .step-clock .ensures)
 
-  stepped-room : (second : ℕ) → let f = fired .fire in
+  stepped-room : (second : ℕ) → let f = fired .fire-ticking in
       Room ByDate (clock .step-clock .last .0) (f .last .1 .0) second (f .result .count) (f .result .end)
   stepped-room =
       let r = entry .pre in
-      clock-room _ _ (r .ok) (r .long) (r .last) (near fired .come-nearer .ensures) (fired .fire .ensures) (clock .step-clock .ensures)
+      clock-room _ _ (r .ok) (r .long) (r .last) (near fired .come-nearer .ensures) (fired .fire-ticking .ensures) (clock .step-clock .ensures)
 
   stepped-second : seconds (clock .step-clock .last .0) ≡ clockStep (read (entry .args .t .now) .clock) .second
   stepped-second =
       let r = entry .pre in
-      second-is _ _ (r .ok) (r .long) (r .last) (near fired .come-nearer .ensures) (fired .fire .ensures) (clock .step-clock .ensures)
+      second-is _ _ (r .ok) (r .long) (r .last) (near fired .come-nearer .ensures) (fired .fire-ticking .ensures) (clock .step-clock .ensures)
 
 -- ---- the needs
 
@@ -52,8 +52,8 @@ come-nearer-requires c κs =
     let e = c .before .before .before in
     record { holds = sound-holds (e .args .t .now) (e .pre .ok); far = sound-well-formed (e .args .t .now) (e .pre .ok) .ticks }
 
-fire-requires : tie.Need-fire-requires
-fire-requires c κs =
+fire-ticking-requires : tie.Need-fire-ticking-requires
+fire-ticking-requires c κs =
     let near = c .before .before .before .before in
     let r = start near .pre in
     nearer-room _ _ (r .ok) (r .long) (r .last) (near .come-nearer .ensures) _ refl
@@ -63,13 +63,13 @@ step-clock-requires c κs =
     let fired = c .before .before .before .before .before in
     let r = start (near fired) .pre in
     let e₁ = near fired .come-nearer .ensures in
-    (first-holds _ _ (r .ok) (r .long) (r .last) e₁ (fired .fire .ensures), first-into _ _ (r .ok) (r .long) (r .last) e₁ (fired .fire .ensures))
+    (first-holds _ _ (r .ok) (r .long) (r .last) e₁ (fired .fire-ticking .ensures), first-into _ _ (r .ok) (r .long) (r .last) e₁ (fired .fire-ticking .ensures))
 
 slice-read-second : tie.Need-slice-read-second
 slice-read-second c = omega (arith, stepped-long (c .before .before .before))
 
-fire-requires-2 : tie.Need-fire-requires-2
-fire-requires-2 c κs = stepped-room (c .before .before .before .before .before) _
+fire-dated-requires : tie.Need-fire-dated-requires
+fire-dated-requires c κs = stepped-room (c .before .before .before .before .before) _
 
 same-length : tie.Need-same-length
 same-length c = search needs
@@ -84,17 +84,17 @@ returns c =
     let f = fired clock in
     let r = entry clock .pre in
     tick-is _ _ (stepped-second clock)
-    (ticked-is _ _ (r .ok) (r .long) (r .last) (near f .come-nearer .ensures) (f .fire .ensures) (clock .step-clock .ensures) (date .fire2 .ensures)) refl
+    (ticked-is _ _ (r .ok) (r .long) (r .last) (near f .come-nearer .ensures) (f .fire-ticking .ensures) (clock .step-clock .ensures) (date .fire-dated .ensures)) refl
 
 pub tick-spec : {M : Type 1} → statement M
 tick-spec =
     tie.close
     (tie.spec
     come-nearer-requires
-    fire-requires
+    fire-ticking-requires
     step-clock-requires
     slice-read-second
-    fire-requires-2
+    fire-dated-requires
     same-length
     same-length-2
     returns)
