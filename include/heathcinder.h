@@ -62,8 +62,8 @@
  *   - A party gives its own number: the library cannot know who calls.
  *   - There is stack: hc_ticks_left takes 32 bytes for each timer ahead of its own, 8.2 KB at most, and so do hc_macro_step and
  *     hc_macro_run for a wait, with up to 500 bytes more, and hc_recording_replay, up to 8.5 KB; for any other step
- *     those two take up to 1.5 KB, hc_macro_check 1.1 KB, hc_plan some 800 bytes, the other calls some 300. The code is for
- *     x86-64, uses SSE registers and the red zone, and needs memset and memcpy; it allocates nothing and has no writable data.
+ *     hc_macro_step and hc_macro_run take up to 1.5 KB, hc_macro_check 1.1 KB, hc_plan some 800 bytes, the other calls
+ *     some 300. The code is for x86-64, uses SSE registers and the red zone, and needs memset and memcpy; it allocates nothing and has no writable data.
  */
 #ifndef HEATHCINDER_H
 #define HEATHCINDER_H

@@ -78,7 +78,12 @@ def test_recordings():
     expect("replay", heathcinder.recording_replay(data), None)
     wrong = heathcinder.recording_write(3, 10, [(2, 1), (2, 0), (10,)], [0, 0, 0])
     expect("replay that differs", heathcinder.recording_replay(wrong), 1)
-    expect("no recording", heathcinder.recording_check(data[:-1]), 4 + 11 * 3 + 3)
+    for short, position in (data[:-1], 4 + 11 * 3 + 3), (b"", 0):
+        try:
+            heathcinder.recording_check(short)
+            expect("no recording", "taken", "refused")
+        except heathcinder.Refused as refused:
+            expect("no recording", (refused.status, refused.position), (Status.INVALID_NUMBER, position))
     expect("write", refusal(heathcinder.recording_write, 3, 10, [(1, 1)], [0]), Status.INVALID_NUMBER)
 
 

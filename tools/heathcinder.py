@@ -44,11 +44,13 @@ class Status(enum.IntEnum):
 
 
 class Refused(Exception):
-    """A call gave this status, which is not SUCCESSFUL."""
+    """A call gave this status, which is not SUCCESSFUL. Of bytes that are no recording, `position` is the first word that is wrong, or
+    missing."""
 
-    def __init__(self, call, status):
+    def __init__(self, call, status, position=None):
         super().__init__("%s gave status %d (%s)" % (call, status, status.text))
         self.status = status
+        self.position = position
 
 
 class Fired(NamedTuple):
@@ -345,14 +347,15 @@ CALL_WORDS, AGREE = 11, (1 << 32) - 1
 
 
 def recording_check(data):
-    """The position of the first word that is wrong, or missing; None where the bytes are a recording."""
+    """Raises Refused, with the position, where the bytes are no recording."""
     position = WORD()
-    status = library().hc_recording_check(data, len(data), ctypes.byref(position))
-    return None if status == Status.SUCCESSFUL else position.value
+    status = Status(library().hc_recording_check(data, len(data), ctypes.byref(position)))
+    if status != Status.SUCCESSFUL:
+        raise Refused("recording_check", status, position.value)
 
 
 def recording_replay(data):
-    """The place of the first call whose status differs; None where none does."""
+    """The place of the first call whose status differs, which may be 0; None where none does."""
     words, listed = (WORD * (HEADER_WORDS + SLOT_WORDS * MAX_SLOTS))(), (WORD * (ENTRY_WORDS * MAX_SLOTS))()
     place = WORD()
     _make("recording_replay", data, len(data), words, len(words), listed, len(listed), ctypes.byref(place))

@@ -137,9 +137,10 @@ def why_refused(data, position):
 
 def read(data):
     """The recording; where the bytes are none, Refused says where and why."""
-    position = heathcinder.recording_check(data)
-    if position is not None:
-        raise Refused("no recording: " + why_refused(data, position))
+    try:
+        heathcinder.recording_check(data)
+    except heathcinder.Refused as refused:
+        raise Refused("no recording: " + why_refused(data, refused.position)) from None
     slots, ticks_per_second, count = struct.unpack_from("<3I", data, 4)
     calls = []
     for k in range(count):

@@ -77,7 +77,10 @@ def line_of_library(data):
     """The line by hc_recording_replay; where it refuses, it answers the position that hc_recording_check answers."""
     table = (heathcinder.WORD * (heathcinder.HEADER_WORDS + heathcinder.SLOT_WORDS * heathcinder.MAX_SLOTS))()
     listed, place = (heathcinder.WORD * (heathcinder.ENTRY_WORDS * heathcinder.MAX_SLOTS))(), heathcinder.WORD()
-    position = heathcinder.recording_check(data)
+    try:
+        position = heathcinder.recording_check(data)
+    except heathcinder.Refused as refused:
+        position = refused.position
     status = heathcinder.library().hc_recording_replay(data, len(data), table, len(table), listed, len(listed), ctypes.byref(place))
     expect("the status of hc_recording_replay", 0 if position is None else heathcinder.Status.INVALID_NUMBER, status)
     if position is not None:
