@@ -22,7 +22,7 @@ from pathlib import Path
 
 ROOT = Path(__file__).resolve().parent.parent
 LOGS = ROOT / "target" / "edits"
-CHECKS_AT_ONCE = 20  # checks of one crate that one worker takes
+CHECKS_AT_ONCE = 50  # checks of one crate that one worker takes
 CHECKS_TO_PREPARE = 4  # from so many on, the crate as it is is checked first, and each check goes on from there
 PARTS = "src", "specs", "proofs"
 printing = threading.Lock()
@@ -184,7 +184,8 @@ class Worker:
                 if status == 0:
                     say("%s: NOT REFUSED: the crate is still proved with this edit" % name)
                 else:
-                    say("%s: BAD EDIT: it did not reach the prover (exit %d)\n%s" % (name, status, "\n".join(report.splitlines()[:5])))
+                    why = [line for line in report.splitlines() if not re.match(r"rt: \w+ proved", line)][:5]
+                    say("%s: BAD EDIT: it did not reach the prover (exit %d)\n%s" % (name, status, "\n".join(why)))
             elif not refused or not told:
                 left.append(edit)
             else:
