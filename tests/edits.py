@@ -23,7 +23,7 @@ from pathlib import Path
 ROOT = Path(__file__).resolve().parent.parent
 LOGS = ROOT / "target" / "edits"
 CHECKS_AT_ONCE = 50  # checks of one crate that one worker takes
-CHECKS_TO_PREPARE = 4  # from so many on, the crate as it is is checked first, and each check goes on from there
+CHECKS_TO_PREPARE = 10  # from so many on, the crate is checked as it is first, and each check goes on from there
 PARTS = "src", "specs", "proofs"
 printing = threading.Lock()
 
