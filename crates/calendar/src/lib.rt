@@ -1,4 +1,6 @@
 // The civil calendar from 1988 to 2099: which wall times are valid, and the seconds from 1988-01-01 00:00:00 to and from them.
+#![tactic(auto)]
+
 ghost use Rattle.std.specs.Prelude.{◌≡◌, true, ◌+◌, ◌-◌, ◌*◌, ◌/◌, ◌<◌, ◌≤◌, get_or};
 ghost use Rattle.calendar.specs.Calendar.{leap_flag, months_of, valid, total, before, years, days_of, seconds_of, last_second, date_of, instant_of, date_answer};
 
