@@ -120,11 +120,13 @@ module _ (w : List ℕ) (n t split : ℕ) (ok : (outcome w (lay_out n t split)).
 
   -- a slot of a link stands there, and where it stands there once the wait is that link's
   at-least-once : (i : ℕ) (v : Link) (l : List Link) → Memᴰ v l → v.slot ≡ i → 1 ≤ count (λ x. eqb x.slot i) l
+  at-least-once i v [] x'' is = elim x'' [ ]
   at-least-once i v (x ∷ l) (mathlib.Core.List.Memᴰ.head q) is = rw (eq-eqb x.slot i (ap (λ (y : Link). y.slot) (sym q) ∙ is)) (omega arith)
   at-least-once i v (x ∷ l) (mathlib.Core.List.Memᴰ.tail m) is =
       let rest = at-least-once i v l m is in cases (eqb x.slot i) (λ e. rw e (omega arith)) (λ e. rw e rest)
 
   wait-of : (i : ℕ) (v : Link) (l : List Link) → Memᴰ v l → v.slot ≡ i → count (λ x. eqb x.slot i) l ≤ 1 → wait_at i l ≡ v.wait
+  wait-of i v [] x3 is few = elim x3 [ ]
   wait-of i v (x ∷ l) (mathlib.Core.List.Memᴰ.head q) is few =
       rw (eq-eqb x.slot i (ap (λ (y : Link). y.slot) (sym q) ∙ is)) (ap (λ (y : Link). y.wait) (sym q))
   wait-of i v (x ∷ l) (mathlib.Core.List.Memᴰ.tail m) is few =

@@ -56,6 +56,7 @@ among P Q id s l d now by-ticks by-date = in-chain (chain_for s.mode) refl
     in-chain Queue is = clash (sym (ap (same_chain Queue) is) ∙ not-queue s.mode)
 
 some-element : {A : Type 0} {x : A} (l : List A) → Memᴰ x l → 0 < length l
+some-element {A = A} [] m = elim m [ ]
 some-element (y ∷ ys) m = omega arith
 
 module _ (w : List ℕ) (n t split : ℕ) (ok : (outcome w (lay_out n t split)).status ≡ 0) (xs : List Call) (k : ℕ) (list : List ℕ)

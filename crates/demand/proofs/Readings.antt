@@ -204,6 +204,7 @@ at-every-nth P Q id timer n r u e =
 -- ---- 4. What fires is listed.
 
 mem-keep : {A : Type 0} (p : A → Bool) {x : A} (l : List A) → p x ≡ true → Memᴰ x l → Memᴰ x (keep p l)
+mem-keep {A = A} p [] e x3 = elim x3 [ ]
 mem-keep p (y ∷ ys) e (Memᴰ.head q) = rw (ap p (sym q) ∙ e) (Memᴰ.head q)
 mem-keep p (y ∷ ys) e (Memᴰ.tail m) = cases (p y) (λ f. rw f (Memᴰ.tail (mem-keep p ys e m))) (λ f. rw f (mem-keep p ys e m))
 
@@ -212,6 +213,7 @@ mem-place key x [] = Memᴰ.head refl
 mem-place key x (y ∷ ys) = cases (goes_behind (key x) (key y)) (λ f. rw f (Memᴰ.tail (mem-place key x ys))) (λ f. rw f (Memᴰ.head refl))
 
 mem-place-tail : {A : Type 0} (key : A → ℕ) (x : A) {z : A} (l : List A) → Memᴰ z l → Memᴰ z (place key x l)
+mem-place-tail {A = A} key x {z = z} [] x'' = elim x'' [ ]
 mem-place-tail key x (y ∷ ys) (Memᴰ.head q) =
     cases (goes_behind (key x) (key y)) (λ f. rw f (Memᴰ.head q)) (λ f. rw f (Memᴰ.tail (Memᴰ.head q)))
 mem-place-tail key x (y ∷ ys) (Memᴰ.tail m) =
@@ -222,6 +224,7 @@ mem-acc key acc [] m = m
 mem-acc key acc (x ∷ xs) m = mem-acc key (place key x acc) xs (mem-place-tail key x acc m)
 
 mem-order : {A : Type 0} (key : A → ℕ) {z : A} (acc l : List A) → Memᴰ z l → Memᴰ z (order_on key acc l)
+mem-order {A = A} key {z = z} acc [] x' = elim x' [ ]
 mem-order key acc (x ∷ xs) (Memᴰ.head q) = mem-acc key (place key x acc) xs (Memᴰ.cast q (mem-place key x acc))
 mem-order key acc (x ∷ xs) (Memᴰ.tail m) = mem-order key (place key x acc) xs m
 
