@@ -2,16 +2,15 @@
 use mathlib.Core.Path.{◌≡◌, refl, sym, ap, ◌∙◌}
 use Prim.Native.Nat.{ℕ, zero, suc, ◌≤◌, ◌<◌}
 use native.Mathlib.Omega.{arith}
-use mathlib.Core.Bool.{Bool, true, false, cond, ◌||◌}
-use mathlib.Core.Option.{Option, none, some}
+use mathlib.Core.Bool.{Bool, false, ◌||◌}
+use mathlib.Core.Option.{none}
 use lib.ListN.{get_or-eq_default}
 use lib.Dec.{ltb, eqb}
 use borrow.Author.Tests.{ltb-true, ltb-false, ne_eqb}
-use Rattle.model.specs.declared.Chain.{Chain}
 use Rattle.model.specs.declared.Chain.TheVariants.{ByTicks, ByDate, Queue}
-use Rattle.model.specs.Kinds.{Kind, kind_entry, kinds, kind_at, is_in, waits_in, is_some, linked, by_ticks, last_by_ticks}
-use Rattle.laws.proofs.ListLaws.{cases, clash}
-use Rattle.laws.proofs.KindLaws.{read_all, on-kinds, on-numbers}
+use Rattle.model.specs.Kinds.{Kind, kind_entry, kinds, kind_at, is_in, waits_in, linked, by_ticks, last_by_ticks}
+use Rattle.laws.proofs.ListLaws.{cases}
+use Rattle.laws.proofs.KindLaws.{read_all, on-kinds}
 
 -- ---- a test on what a kind says is a test on its number
 

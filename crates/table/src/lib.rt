@@ -15,6 +15,8 @@
 //
 //   server timers:    8 idle, by interval  10 waiting for ticks   12 queued, by interval
 //                     9 idle, by date      11 waiting for a date  13 queued, by date
+#![tactic(auto)]
+
 ghost use Rattle.std.specs.Prelude.{◌≡◌, [], ◌∷◌, ◌+◌, ◌*◌, ◌<◌, ◌≤◌, length, set, leb};
 ghost use Rattle.calendar.specs.Calendar.{all_of};
 ghost use Rattle.model.specs.declared.Chain.TheVariants.{ByTicks};
