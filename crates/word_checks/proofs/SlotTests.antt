@@ -14,9 +14,8 @@ use Rattle.model.specs.declared.Mode.TheVariants.{After, When, Every, ServerAfte
 use Rattle.model.specs.Kinds.{kind_at, chain_for, waiting_kind, same_chain, waits_in, linked, last_by_ticks}
 use Rattle.model.specs.Words.{kind_of, name_of, interval_of, wait_of, routine_of, data_of, next_of, previous_of, server_initiated}
 use Rattle.model.specs.Sound.{slot_tests, slot_sound, unlinked, unstarted}
-use Rattle.laws.proofs.ListLaws.{cases, clash, both, or_right, all-at, all_true}
+use Rattle.laws.proofs.ListLaws.{cases, clash, or_right, all-at, all_true}
 use Rattle.laws.proofs.KindLaws.{in-ticks}
-use Rattle.table.proofs.KindTests.{new_apart}
 use Rattle.word_checks.specs.Tested.{new_tested, idle_tested, slot_tests_made, slot_tested_as, slot_tested}
 use Rattle.word_checks.proofs.BooleanTests.{fails}
 

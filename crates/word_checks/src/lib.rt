@@ -1,4 +1,6 @@
 // The words of the header, and those of a slot, tested by themselves: the parts of the soundness check that follow no link.
+#![tactic(auto)]
+
 ghost use Rattle.std.specs.Prelude.{◌≡◌, ◌&&◌, false, ◌+◌, ◌*◌, ◌≤◌, eqb, length};
 ghost use Rattle.model.specs.Sound.{header_sound, unlinked, unstarted};
 ghost use Rattle.word_checks.specs.Tested.{all_zero, new_tested, idle_tested, slot_tested};
