@@ -1,4 +1,6 @@
 // The words of a slot, tested by themselves, where the server is initiated: every kind may occur.
+#![tactic(auto)]
+
 ghost use Rattle.std.specs.Prelude.{◌≡◌, cond, ◌+◌, ◌*◌, ◌≤◌, length};
 ghost use Rattle.model.specs.declared.Chain.TheVariants.{ByDate};
 ghost use Rattle.model.specs.Kinds.{waits_in};
