@@ -1,4 +1,6 @@
 // The walks of the soundness check: the test of the heads, a step along each chain, and the end of the dated one.
+#![tactic(auto)]
+
 ghost use Rattle.std.specs.Prelude.{◌≡◌, ◌+◌, ◌*◌, ◌<◌, ◌≤◌, length};
 ghost use Rattle.model.specs.declared.Chain.TheVariants.{ByTicks, ByDate, Queue};
 ghost use Rattle.model.specs.Kinds.{waits_in};
