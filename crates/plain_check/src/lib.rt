@@ -1,5 +1,7 @@
 // The soundness check of a table whose server is not initiated: the pass over the slots, with a walk along the interval chain and one along the
 // dated chain.
+#![tactic(auto)]
+
 ghost use Rattle.std.specs.Prelude.{◌≡◌, true, ◌<◌};
 ghost use Rattle.model.specs.declared.Chain.TheVariants.{ByTicks};
 ghost use Rattle.model.specs.Kinds.{waits_in};
