@@ -1,4 +1,6 @@
 // The soundness check of a table whose server is initiated: the pass over the slots, with a walk along each of the three chains.
+#![tactic(auto)]
+
 ghost use Rattle.std.specs.Prelude.{◌≡◌, true};
 ghost use Rattle.model.specs.Words.{server_initiated};
 ghost use Rattle.model.specs.Sound.{header_sound};
