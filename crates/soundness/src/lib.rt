@@ -30,6 +30,8 @@
 //
 // The tests of the header and of a slot by itself are in `word_checks` and, where server timers may occur, `server_word_checks`; those of the walks in
 // `walks`; the pass in `plain_check` and `server_check`.
+#![tactic(auto)]
+
 ghost use Rattle.std.specs.Prelude.{◌≡◌};
 ghost use Rattle.model.specs.Sound.{sound};
 ghost use Rattle.soundness.specs.Verdicts.{verdict};
