@@ -1,4 +1,6 @@
 // Whose slots are whose; a party's slots are found by a word, or by an id; and a slice is cleared for a new table.
+#![tactic(auto)]
+
 ghost use Rattle.std.specs.Prelude.{◌≡◌, true, ◌++◌, ◌<◌, ◌≤◌, length, drop, replicate};
 ghost use Rattle.model.specs.Parties.{owner_of, is_party, first_own, last_own};
 ghost use Rattle.model.specs.Words.{read, slot_count, party_split};
