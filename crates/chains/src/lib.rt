@@ -2,6 +2,8 @@
 // each slot the next and the previous one, 0 for none. In the interval chain a slot's wait is the ticks after the slot before it, so that its
 // follower's wait grows when it leaves and shrinks when it comes in front; in the dated chain a wait is the date
 // itself, and in the queue of the server it is 0.
+#![tactic(auto)]
+
 ghost use Rattle.std.specs.Prelude.{◌≡◌, ◌+◌, ◌*◌, ◌<◌, ◌≤◌, length, set};
 ghost use Rattle.model.specs.Words.{word, head_word, wait_of, next_of};
 ghost use Rattle.laws.proofs.StateWords.{link_word};
