@@ -14,7 +14,7 @@ use Rattle.model.specs.declared.Chain.{Chain}
 use Rattle.model.specs.declared.Chain.TheVariants.{ByTicks, ByDate, Queue}
 use Rattle.model.specs.Kinds.{same_chain}
 use Rattle.model.specs.State.{Link, Clock, State, chain_of, with_chain, put_at}
-use Rattle.model.specs.Words.{first, difference, write, written_over, word, field, head_word, slot_from, ticks_into}
+use Rattle.model.specs.Words.{first, difference, write, written_over, word, field, head_word, slot_from}
 use Rattle.laws.proofs.ListLaws.{cases, clash, count-append}
 use Rattle.laws.proofs.EachPlace.{end, ◌&◌, each_at}
 use Rattle.laws.proofs.Slots.{at_same, at_other, length-put}

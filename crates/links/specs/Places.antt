@@ -1,10 +1,10 @@
 -- Where a timer goes in a chain, and what the functions of this crate ask of a table. Assumes nothing: these are definitions.
-use Rattle.std.specs.Prelude.{ℕ, ◌+◌, ◌≤◌, ◌<◌, ◌≡◌, true, false, cond, List, [], ◌∷◌, leb}
+use Rattle.std.specs.Prelude.{ℕ, ◌≤◌, ◌<◌, ◌≡◌, true, false, cond, List, [], ◌∷◌, leb}
 use Rattle.model.specs.declared.Chain.{Chain}
 use Rattle.model.specs.declared.Chain.TheVariants.{ByTicks}
 use Rattle.model.specs.Kinds.{kind_at, waits_in}
 use Rattle.model.specs.State.{Link, State, chain_of, wait_at}
-use Rattle.model.specs.Words.{word, read, difference, accumulated, slot_count, kind_of, wait_of, previous_of}
+use Rattle.model.specs.Words.{read, difference, accumulated, slot_count, kind_of, wait_of, previous_of}
 use Rattle.laws.proofs.WellFormed.{times_in, Holds}
 
 -- the first links of a chain, whose wait is not above n, and the others

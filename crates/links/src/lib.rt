@@ -1,5 +1,7 @@
 // Timers start to wait and stop: a slot goes into the chain of its kind, behind every one due by then, or out of it, and its other words say
 // what it waits for. What the chains are, and which words change, is in `chains`.
+#![tactic(auto)]
+
 ghost use Rattle.std.specs.Prelude.{◌≡◌, ◌+◌, ◌*◌, ◌<◌, ◌≤◌, true, length};
 ghost use Rattle.model.specs.Kinds.{kind_at, chain_for, waiting_kind, interval_in, linked, waits_in};
 ghost use Rattle.model.specs.State.{chain_of, slot_at, wait_at};
