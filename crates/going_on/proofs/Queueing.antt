@@ -4,9 +4,9 @@ use mathlib.Core.Path.{◌≡◌, refl, sym, ap, ap₂, ◌∙◌, subst}
 use mathlib.Core.Logic.{◌≢◌}
 use Prim.Native.Nat.{ℕ, ◌+◌, ◌-◌, ◌≤◌}
 use native.Mathlib.Omega.{arith}
-use mathlib.Core.Bool.{true, false}
+use mathlib.Core.Bool.{false}
 use mathlib.Core.List.{List, [], ◌∷◌, ◌++◌}
-use lib.ListN.{length, set}
+use lib.ListN.{set}
 use lib.Dec.{eqb}
 use borrow.Author.Tests.{eqb-true, eqb-false, le-leb}
 use Rattle.model.specs.declared.Chain.{Chain}
@@ -15,7 +15,7 @@ use Rattle.model.specs.Kinds.{kind_at, same_chain, waits_in}
 use Rattle.model.specs.Lists.{All, place}
 use Rattle.model.specs.State.{Slot, Link, State, chain_of, slot_at}
 use Rattle.model.specs.Directives.{stopped, became, fired, idled, inserted}
-use Rattle.model.specs.Words.{written_over, read, kind_of}
+use Rattle.model.specs.Words.{written_over, read}
 use Rattle.laws.proofs.ListLaws.{cases}
 use Rattle.laws.proofs.WellFormed.{Chained}
 use Rattle.laws.proofs.Chains.{without-none}

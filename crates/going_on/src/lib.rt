@@ -1,4 +1,6 @@
 // Timers that fired go on: a periodic one back into the interval chain, for its interval, and a server timer to the back of the queue.
+#![tactic(auto)]
+
 ghost use Rattle.std.specs.Prelude.{◌≡◌, ◌-◌, ◌*◌, ◌<◌, ◌≤◌, length};
 ghost use Rattle.model.specs.State.{id_base};
 ghost use Rattle.model.specs.Words.{word, read, written_over, next_of};
