@@ -4,7 +4,7 @@ use mathlib.Core.Path.{◌≡◌, refl, sym, ap, ap₂, ◌∙◌, subst}
 use mathlib.Core.Logic.{◌≢◌}
 use Prim.Native.Nat.{ℕ, zero, suc, ◌+◌, ◌-◌, ◌*◌, ◌≤◌, ◌<◌}
 use native.Mathlib.Omega.{arith}
-use mathlib.Core.Bool.{Bool, false, not}
+use mathlib.Core.Bool.{false, not}
 use mathlib.Core.List.{List, [], ◌∷◌}
 use lib.ListN.{length}
 use lib.Seq.{length-sets}
@@ -21,7 +21,7 @@ use Rattle.laws.proofs.Chains.{InSlots, in-slots}
 use Rattle.laws.proofs.ReadBack.{slots_length, over-over}
 use Rattle.laws.proofs.Steps.{length-fire, chained-fire}
 use Rattle.links.proofs.NextState.{Next, next_start, next-read, next-holds, next-then}
-use Rattle.firing.specs.Lists.{EndsAt, Room, Tally, off_all, due_listed, TakesOff, Fires}
+use Rattle.firing.specs.Lists.{Room, Tally, off_all, due_listed, TakesOff, Fires}
 use Rattle.going_on.specs.GoingBack.{went_back, back_all, slots_in, Entries}
 use Rattle.links.specs.Places.{last_slot}
 use Rattle.firing.proofs.TwoRounds.{slots_of, length-off_all, chained-between, two-rounds, one-round}

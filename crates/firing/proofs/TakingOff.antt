@@ -12,7 +12,7 @@ use lib.Dec.{leb, eqb}
 use borrow.Author.Tests.{eq-eqb, ne_eqb, leb-true, leb-false, le-leb, lt-leb}
 use Rattle.model.specs.declared.Chain.{Chain}
 use Rattle.model.specs.declared.Chain.TheVariants.{ByTicks, ByDate, Queue}
-use Rattle.model.specs.Kinds.{kinds, kind_at, same_chain, is_in, waits_in, for_server}
+use Rattle.model.specs.Kinds.{kind_at, same_chain, is_in, waits_in, for_server}
 use Rattle.model.specs.Lists.{keep, any, All, Sorted}
 use Rattle.model.specs.State.{Slot, Link, State, chain_of, slot_at, without, id_base, Fired, listed}
 use Rattle.model.specs.Directives.{stopped, idled, due, without_server}

@@ -1,8 +1,8 @@
 -- Timers that are due fire in two rounds: in the first each comes off its chain, where a server timer is queued and any other stops; in the second
 -- those that are then idle and periodic wait again. The model gives each the kind of one that fired as it comes off, and then all go on in turn; the
 -- state is the same in the end. Assumes nothing.
-use mathlib.Core.Path.{◌≡◌, refl, sym, ap, ap₂, ◌∙◌, subst}
-use Prim.Native.Nat.{ℕ, zero, suc, ◌+◌, ◌≤◌, ◌<◌}
+use mathlib.Core.Path.{◌≡◌, refl, sym, ap, ap₂, ◌∙◌}
+use Prim.Native.Nat.{ℕ, zero, suc, ◌≤◌, ◌<◌}
 use native.Mathlib.Omega.{arith}
 use mathlib.Core.Bool.{Bool, true, false, cond, not, ◌&&◌, ◌||◌, or-true, and-false}
 use mathlib.Core.Option.{Option, none, some}
@@ -14,7 +14,7 @@ use borrow.Author.Tests.{eqb-true, eqb-false, eq-eqb, leb-true, leb-false, le-lt
 use Rattle.model.specs.declared.Chain.{Chain}
 use Rattle.model.specs.declared.Chain.TheVariants.{ByTicks, ByDate, Queue}
 use Rattle.model.specs.declared.Mode.TheVariants.{Every}
-use Rattle.model.specs.Kinds.{Kind, kind_entry, kinds, kind_at, waiting_kind, same_chain, is_in, waits_in, is_some, for_server}
+use Rattle.model.specs.Kinds.{Kind, kinds, kind_at, waiting_kind, same_chain, is_in, waits_in, is_some, for_server}
 use Rattle.model.specs.Lists.{keep, any, place, All, Sorted}
 use Rattle.model.specs.State.{Slot, Link, State, chain_of, with_chain, free, slot_at, put_at, without}
 use Rattle.model.specs.Directives.{stopped, became, idled, inserted, fired, fired_all, reinserted, go_on, due, off, fire, without_server}

@@ -1,6 +1,8 @@
 // Timers fire, and the clock goes on: the steps of a tick and of a set clock. All timers of a chain that are due come off first: a server timer
 // goes to the back of the queue, any other is listed. Then the periodic ones, which the list names in the order in which they fired, go back into
 // the interval chain.
+#![tactic(auto)]
+
 ghost use Rattle.std.specs.Prelude.{◌≡◌, false, [], ◌∷◌, ◌+◌, ◌*◌, ◌<◌, ◌≤◌, length};
 ghost use Rattle.std.proofs.lemmas.List.Edits.{sets};
 ghost use Rattle.model.specs.declared.Chain.TheVariants.{ByTicks, ByDate};
