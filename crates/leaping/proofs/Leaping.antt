@@ -8,7 +8,7 @@ use mathlib.Core.List.{List, map, head-eq_of_cons-eq}
 use lib.ListN.{length}
 use Rattle.model.specs.Lists.{All}
 use Rattle.model.specs.State.{State, listed}
-use Rattle.model.specs.Directives.{most_leap, clock_step, ticked, Leapt, leapt}
+use Rattle.model.specs.Directives.{most_leap, clock_step, ticked, Leapt}
 use Rattle.model.specs.Words.{read, written_over}
 use Rattle.model.specs.Outcome.{written}
 use Rattle.laws.proofs.ListLaws.{all_map}

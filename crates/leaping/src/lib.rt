@@ -1,5 +1,7 @@
 // Ticks on a sound table: one, and a leap by many. A leap costs one tick however long it is: those in which no timer is due are gone over at once,
 // and one in which a timer is due is a tick.
+#![tactic(auto)]
+
 ghost use Rattle.std.specs.Prelude.{◌≡◌, true, ◌-◌, ◌*◌, ◌<◌, ◌≤◌};
 ghost use Rattle.model.specs.Lists.{All};
 ghost use Rattle.model.specs.State.{with_clock};
