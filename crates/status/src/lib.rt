@@ -1,4 +1,6 @@
 // The numbers of the statuses, for whoever prints them or hands them to C: document 01's table, of which those below 100 are RTEMS's.
+#![tactic(auto)]
+
 ghost use Rattle.std.specs.Prelude.{◌≡◌};
 ghost use Rattle.model.specs.Status.{number_of};
 
