@@ -1,4 +1,6 @@
 // What the calls answer, and what that is in document 01's numbers (specs/Answers.antt), for whoever prints it or hands it to C.
+#![tactic(auto)]
+
 ghost use Rattle.std.specs.Prelude.{◌≡◌, [], ◌∷◌};
 ghost use Rattle.answers.specs.Answers.{status_of, answer_of, reading_status, reading_answer};
 
