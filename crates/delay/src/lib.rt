@@ -1,5 +1,7 @@
 // Delays as people write them, document 02, item 12: so many ticks, seconds as a binary64 number, or a date. Seconds become ticks exactly, from the
 // number's bits. Every number and every T is answered: specs/Seconds.antt says what.
+#![tactic(auto)]
+
 ghost use Rattle.std.specs.Prelude.{◌≡◌, ◌<◌, ◌≤◌, ◌*◌, ◌^◌};
 ghost use Rattle.std.specs.Float.{binary64};
 ghost use Rattle.std.specs.Float.Ieee.{of_bits};
