@@ -4,7 +4,6 @@ use Prim.Native.Nat.{ℕ}
 use native.Mathlib.Omega.{arith}
 use mathlib.Core.Bool.{true, not}
 use mathlib.Core.List.{List}
-use borrow.Author.Tests.{not-false}
 use Rattle.model.specs.declared.Status.TheVariants.{InvalidId}
 use Rattle.model.specs.Parties.{owns, is_party}
 use Rattle.model.specs.State.{State, index_of, names, names_own}

@@ -1,4 +1,6 @@
 // How the calls of a party open: refused with 100 or 4, or on; those that take an id go on with the slot of the party's timer that it names.
+#![tactic(auto)]
+
 ghost use Rattle.answers.specs.Openings.{Opens};
 ghost use Rattle.opening.specs.Parties.{on_party, Member};
 ghost use Rattle.opening.specs.Ids.{on_id, Named};
