@@ -3,8 +3,8 @@ use mathlib.Core.Path.{◌≡◌, refl, sym, ap, ap₂, ◌∙◌}
 use Prim.Native.Nat.{ℕ, zero, suc, ◌+◌, ◌*◌}
 use native.Mathlib.Omega.{arith}
 use mathlib.Core.Bool.{true}
-use mathlib.Core.List.{List, [], ◌∷◌, ◌++◌}
-use lib.ListN.{length, set, drop, replicate, length-replicate}
+use mathlib.Core.List.{List, ◌∷◌, ◌++◌}
+use lib.ListN.{set, drop, replicate, length-replicate}
 use Rattle.model.specs.declared.Chain.TheVariants.{ByTicks}
 use Rattle.model.specs.State.{Slot, State, with_chain, free, slot_at}
 use Rattle.model.specs.Directives.{laid_out, lowest_free, stored, never_started, stopped, idled}

@@ -3,6 +3,8 @@
 // every table, number and date is answered, and each contract gives status, answer and every word of table and list by one equation with the
 // model's `outcome` (model/specs/Outcome.antt). `status_of` and `answer_of` (answers/specs/Answers.antt) say what an answer is in document 01's
 // numbers.
+#![tactic(auto)]
+
 ghost use Rattle.std.specs.Prelude.{◌≡◌, []};
 ghost use Rattle.calendar.specs.Calendar.{all_of};
 ghost use Rattle.model.specs.Calls as call;
