@@ -12,7 +12,7 @@ use Rattle.model.specs.Lists.{All}
 use Rattle.model.specs.Status.{Refusal, number_of, first_of}
 use Rattle.model.specs.Calls.{Call}
 use Rattle.model.specs.State.{index_of}
-use Rattle.model.specs.Directives.{started, leaves, refusals, effect}
+use Rattle.model.specs.Directives.{started, refusals}
 use Rattle.model.specs.Words.{written_over, read}
 use Rattle.model.specs.Outcome.{Outcome, outcome_of, status_on, refused, accepted, outcome}
 use Rattle.laws.proofs.StatusLaws.{not-zero}

@@ -1,5 +1,7 @@
 // A timer starts for some ticks, or for a date, on a table that is known to be sound: what the calls of crates `starts` and `server` share, whose
 // openings differ. The contracts give status, answer and every word by the rules that are left to try.
+#![tactic(auto)]
+
 ghost use Rattle.std.specs.Prelude.{◌≡◌, true, []};
 ghost use Rattle.calendar.specs.Calendar.{seconds_of};
 ghost use Rattle.model.specs.Directives.{start_rules, date_rules};
