@@ -1,5 +1,7 @@
 // The calls that start timers: for some ticks, for a date, for every so many ticks, and again; what a start does behind its opening is in crate
 // `starting`. Their contracts are as those of crate `timer`.
+#![tactic(auto)]
+
 ghost use Rattle.std.specs.Prelude.{◌≡◌, true, []};
 ghost use Rattle.model.specs.Kinds.{last_by_ticks, last_mode};
 ghost use Rattle.model.specs.Calls as call;
