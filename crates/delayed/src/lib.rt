@@ -1,4 +1,6 @@
 // A start by a delay, document 02, item 12: as fire after or, for a date, as fire when. specs/Starts.antt says what comes of it.
+#![tactic(auto)]
+
 ghost use Rattle.std.specs.Prelude.{◌≡◌, []};
 ghost use Rattle.model.specs.Words.{ticks_per_second};
 ghost use Rattle.model.specs.Outcome.{outcome_of};
