@@ -4,18 +4,17 @@ use mathlib.Core.Path.{◌≡◌, refl, sym, ap, ap₂, ◌∙◌}
 use mathlib.Core.Logic.{◌≢◌, ◌⊎◌, inl, inr}
 use Prim.Native.Nat.{ℕ, ◌+◌, ◌*◌, ◌≤◌, ◌<◌}
 use native.Mathlib.Omega.{arith}
-use mathlib.Core.Bool.{Bool, true, false, cond, not}
+use mathlib.Core.Bool.{Bool, true, false, cond}
 use mathlib.Core.List.{List, [], ◌∷◌, map}
 use lib.ListN.{length, set, take, drop}
 use lib.Seq.{sets}
-use lib.Dec.{eqb}
 use borrow.Author.Tests.{eq-eqb, ne_eqb}
 use Rattle.model.specs.declared.Chain.TheVariants.{Queue}
 use Rattle.model.specs.Lists.{keep, drop_first}
 use Rattle.model.specs.Kinds.{kind_at, waits_in}
-use Rattle.model.specs.State.{Slot, Link, State, chain_of, with_chain, slot_at, put_at, without, id_base, listed}
+use Rattle.model.specs.State.{Link, State, chain_of, with_chain, slot_at, put_at, without, id_base, listed}
 use Rattle.model.specs.Directives.{stopped, became, idled, fired_all, is_own, front, handed_out, initiated}
-use Rattle.model.specs.Words.{first, all_slots, write, written_over, slot_from, read, server_initiated}
+use Rattle.model.specs.Words.{first, written_over, slot_from, read, server_initiated}
 use Rattle.model.specs.Sound.{sound}
 use Rattle.model.specs.Outcome.{written}
 use Rattle.laws.proofs.ListLaws.{cases, drop_first-none}

@@ -1,5 +1,7 @@
 // The deferred server: server timers that are due are queued, by tick and set clock, and handed out one at a time. Initiate server, its two starts,
 // and serve. Their contracts are as those of crate `timer`.
+#![tactic(auto)]
+
 ghost use Rattle.std.specs.Prelude.{◌≡◌, true, [], ◌≤◌, length};
 ghost use Rattle.model.specs.Calls as call;
 ghost use Rattle.model.specs.Directives.{front};
