@@ -1,5 +1,7 @@
 // The clock: a tick, a leap, set clock and get clock. Their contracts are as those of crate `timer`, set clock's with a second equation, leap's with a second
 // number; `reading_status` and `reading_answer` (answers/specs/Answers.antt) say what get clock's answer is in document 01's numbers.
+#![tactic(auto)]
+
 ghost use Rattle.std.specs.Prelude.{◌≡◌, true, [], ◌∷◌, ◌++◌, ◌+◌, ◌*◌, ◌^◌, ◌<◌, ◌≤◌, pos, ◌-ℤ◌};
 ghost use Rattle.model.specs.Calls as call;
 ghost use Rattle.model.specs.Outcome.{outcome_of, outcome, movement};
