@@ -1,5 +1,7 @@
 // When the next interval timer is due, for whoever wants to sleep until then. This call alone makes no check of the whole table: it reads the header and
 // one slot, so that its time does not grow with the slots. Its contract is as those of crate `timer`.
+#![tactic(auto)]
+
 ghost use Rattle.std.specs.Prelude.{◌≡◌, [], take};
 ghost use Rattle.calendar.specs.Calendar.{all_of};
 ghost use Rattle.model.specs.Calls as call;
