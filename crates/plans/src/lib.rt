@@ -1,6 +1,8 @@
 // Jobs for a break and a checker of plans for them: whether every job ends by the end of the break and no two jobs of one bench overlap. Jobs come
 // as words, two a job: its bench, and its length in ticks. A plan is one start tick a job, in the jobs' order, counted from the start of the break;
 // `end` is the tick at which the break ends, its length. The checker takes any words: specs/Checker.antt says what it answers.
+#![tactic(auto)]
+
 ghost use Rattle.std.specs.Prelude.{◌≡◌, true, ◌+◌, ◌*◌, ◌<◌, ◌≤◌, length};
 ghost use Rattle.model.specs.Lists.{All, every};
 ghost use Rattle.plans.specs.Plans.{jobs_of, job_within, jobs_within, within_limits, booked, overlap, clear_of, accepts};
