@@ -1,5 +1,7 @@
 // A planner for the jobs of a break: it proposes a plan, back to back on each bench, asks the checker, and writes it into the list that it is lent.
 // It takes any words: specs/Planner.antt says what it answers, and that it refuses with 13 exactly if no plan is accepted.
+#![tactic(auto)]
+
 ghost use Rattle.std.specs.Prelude.{◌≡◌, true, ◌++◌, ◌≤◌, length, take, drop};
 ghost use Rattle.plans.specs.Plans.{jobs_of, jobs_within};
 ghost use Rattle.plans.specs.Checker.{status_of};
