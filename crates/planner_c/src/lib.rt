@@ -1,5 +1,7 @@
 // The checker and the planner for C: the prototypes of include/heathcinder.h. A slice is a pointer and a length there. Each call gives its status as
 // the result. The contracts are the checker's and the planner's own.
+#![tactic(auto)]
+
 ghost use Rattle.std.specs.Prelude.{◌≡◌};
 ghost use Rattle.plans.specs.Checker.{status_of, checked};
 ghost use Rattle.planner.specs.Planner.{exported, planned, Exact};
