@@ -1,5 +1,7 @@
 // The reader of recordings: bytes that hold the calls of a day and the status expected of each. A recording is a file of 32-bit words;
 // specs/Format.antt says what each has to be. The reader takes any bytes.
+#![tactic(auto)]
+
 ghost use Rattle.std.specs.Prelude.{◌≡◌, true, ◌&&◌, [], ◌∷◌, ◌+◌, ◌-◌, ◌<◌, ◌≤◌, length, get_or, drop, replicate, ltb};
 ghost use Rattle.recording.specs.Format.{words_of, within, exactly, arguments, call_rules, calls_rules, right, refused_at, reading, given};
 
