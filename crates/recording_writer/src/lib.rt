@@ -1,5 +1,7 @@
 // The writer of recordings: numbers, calls and statuses become the bytes that crate `recording` reads. It takes any of them; specs/Writing.antt says
 // what it answers, and specs/RoundTrip.antt what holds of a recording that is written and read.
+#![tactic(auto)]
+
 ghost use Rattle.std.specs.Prelude.{◌≡◌, [], ◌∷◌, ◌+◌, ◌*◌, ◌≤◌, length, get_or, drop, eqb};
 ghost use Rattle.std.proofs.lemmas.List.Edits.{sets};
 ghost use Rattle.recording.specs.Format.{bytes_of, call_rules, calls_rules, right};
