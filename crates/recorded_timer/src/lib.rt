@@ -1,5 +1,7 @@
 // A recorded call on one timer: its eleven words are a number, the timer's id or name, and other arguments. specs/RecordedCalls.antt has the table of all
 // calls that are recorded, as party 1's. Here each call on one timer is an arm; crate `recorded_call` has the rest.
+#![tactic(auto)]
+
 ghost use Rattle.std.specs.Prelude.{◌≡◌, [], ◌∷◌, ◌+◌, ◌≤◌, get_or};
 ghost use Rattle.recorded_timer.specs.Parts.{OneOf, OnTimer, Alone};
 ghost use Rattle.recorded_timer.specs.RecordedCalls.{wall_time_at};
