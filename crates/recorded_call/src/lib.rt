@@ -1,5 +1,7 @@
 // One recorded call: its eleven words, a number and arguments, say which call of the library it is (recorded_timer/specs/RecordedCalls.antt).
 // Here are the calls on the table as a whole; crate `recorded_timer` has those on one timer.
+#![tactic(auto)]
+
 ghost use Rattle.std.specs.Prelude.{◌≡◌, true, get_or};
 ghost use Rattle.recording.specs.Format.{within};
 ghost use Rattle.recorded_timer.specs.RecordedCalls.{step_of, step};
