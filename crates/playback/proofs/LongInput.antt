@@ -2,7 +2,7 @@
 use mathlib.Core.Path.{◌≡◌, sym, ap, ◌∙◌}
 use Prim.Native.Nat.{ℕ, ◌+◌, ◌*◌, ◌<◌}
 use native.Mathlib.Omega.{arith}
-use mathlib.Core.Bool.{Bool, true, cond, not}
+use mathlib.Core.Bool.{Bool, cond, not}
 use mathlib.Core.Option.{some}
 use mathlib.Core.List.{List, [], ◌∷◌}
 use lib.ListN.{length, take}
@@ -15,7 +15,7 @@ use Rattle.laws.proofs.ListLaws.{cases}
 use Rattle.recording.specs.Format.{words_of, Read, reading}
 use Rattle.recording.proofs.TakenFacts.{took, held}
 use Rattle.recording.proofs.LongInput.{front-decides}
-use Rattle.playback.specs.Replay.{Replay, replay_of, replay_rules, played, replaying}
+use Rattle.playback.specs.Replay.{Replay, replay_of, played, replaying}
 
 module _ (table list : List ℕ) where
   -- the reader's refusal, passed on

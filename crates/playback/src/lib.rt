@@ -1,5 +1,7 @@
 // The replay of a recorded day: the calls of a recording run on a lent table, laid out afresh, and each status is compared with the expected one.
 // specs/Replay.antt says what comes of it; any bytes, table and list are answered.
+#![tactic(auto)]
+
 ghost use Rattle.std.specs.Prelude.{◌≡◌, ◌+◌, ◌*◌, ◌<◌, ◌≤◌, length, get_or, take, drop};
 ghost use Rattle.recording.specs.Format.{words_of, reading, given, calls_in, statuses_in};
 ghost use Rattle.recording.specs.declared.Contents.TheVariants.{Taken};
