@@ -1,5 +1,7 @@
 // Recordings for C: the prototypes of include/heathcinder.h. A slice is a pointer and a length there. Each call gives its status as the result, and its
 // answer through the last pointer. The contracts are the reader's, the replay's and the writer's own equations.
+#![tactic(auto)]
+
 ghost use Rattle.std.specs.Prelude.{◌≡◌};
 ghost use Rattle.recording.specs.Format.{reading, given};
 ghost use Rattle.playback.specs.Replay as replay;
