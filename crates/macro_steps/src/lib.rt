@@ -1,4 +1,6 @@
 // A macro's words as steps: five words each, kind, arguments, zeros to fill (specs/Steps.antt). Any words are read.
+#![tactic(auto)]
+
 ghost use Rattle.std.specs.Prelude.{◌≡◌, [], ◌∷◌, eqb};
 ghost use Rattle.calendar.specs.Calendar.{all_of};
 ghost use Rattle.macro_steps.specs.Steps.{bare, with_one, step_of, count, step_at, kind_of, kind_at, times_of};
