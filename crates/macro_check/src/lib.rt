@@ -1,5 +1,7 @@
 // The checker says which macros may run. `passes` and `scan` take any words; specs/Passed.antt says which macros pass. A step of a macro needs the
 // repeats that its place is inside too: `scan` finds both in one pass.
+#![tactic(auto)]
+
 ghost use Rattle.std.specs.Prelude.{◌≡◌, cond, ◌+◌, ◌<◌, set, ltb};
 ghost use Rattle.macro_steps.specs.Steps.{count, kind_at};
 ghost use Rattle.macro_check.specs.Passed.{asks_check, whole, passed};
