@@ -1,5 +1,7 @@
 // Macros by their names: a library is entries of name and step count, a word each, and the steps, five words each. The bench has its own, and one is
 // shared by all. Any words are searched: an entry that is not whole ends its library.
+#![tactic(auto)]
+
 ghost use Rattle.std.specs.Prelude.{◌≡◌};
 ghost use Rattle.macro_library.specs.Library.{steps_in, found_in, part_of, looked_up};
 
