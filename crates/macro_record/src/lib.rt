@@ -1,5 +1,7 @@
 // The runner's record: where a macro stands. `readiness` says whether a step may be taken on it, and `after` what becomes of it, by what the manager
 // answered: specs/Record.antt.
+#![tactic(auto)]
+
 ghost use Rattle.std.specs.Prelude.{◌≡◌, true, List, ℕ, ◌-◌, ◌≤◌, ◌<◌, length};
 ghost use Rattle.macro_steps.specs.Steps.{count, step_at, kind_at};
 ghost use Rattle.macro_check.specs.Blocks.{opened, blocks_of};
