@@ -1,6 +1,8 @@
 // The macro runner: a step of a macro on a record that the host lends, over a table of timers. It refuses to sign after a status that nobody checked.
 // A step takes any words, any record and any table; its contract gives status, answer, record and every word of the table by one equation with
 // `stepped` (specs/Stepping.antt), and specs/Runs.antt says what is claimed of a macro's steps. Each step makes one pass over the macro.
+#![tactic(auto)]
+
 ghost use Rattle.std.specs.Prelude.{◌≡◌, []};
 ghost use Rattle.model.specs.Outcome.{outcome_of};
 ghost use Rattle.answers.specs.Answers.{status_of, answer_of};
