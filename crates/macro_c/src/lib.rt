@@ -1,6 +1,8 @@
 // The macro runner for C: the prototypes of include/heathcinder.h. A slice is a pointer and a length there, and ten words are a
 // `struct hc_macro_record`. A check, a step and a run give their status as the result, and an answer goes through the last pointer; a search gives the
 // number of the library. The contracts are the runner's own equations.
+#![tactic(auto)]
+
 ghost use Rattle.std.specs.Prelude.{◌≡◌};
 ghost use Rattle.macro_library.specs.Library.{found_in};
 ghost use Rattle.macros.specs.Stepping.{stepped};
