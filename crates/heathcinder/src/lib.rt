@@ -1,6 +1,8 @@
 // The timer manager for C: the prototypes of include/heathcinder.h, in its order. A slice is a pointer and a length there, and seven words are
 // a `struct hc_wall_time`. Each call gives its status as the result; an answer goes through the last pointer, set clock's two and leap's two
 // through the last two, and is 0 on every refusal. The contracts are the calls' own equations with the model's `outcome` and `movement`.
+#![tactic(auto)]
+
 ghost use Rattle.std.specs.Prelude.{◌≡◌, [], ◌∷◌};
 ghost use Rattle.model.specs.Calls as call;
 ghost use Rattle.model.specs.Outcome.{outcome_of, outcome, movement};

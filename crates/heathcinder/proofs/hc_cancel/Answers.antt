@@ -1,0 +1,7 @@
+-- `heathcinder::hc_cancel` meets its contract: the status is that of `cancel`'s answer, and the number of that answer is 0, done or refused. Assumes nothing.
+use mathlib.Core.Path.{refl}
+use Rattle.heathcinder.proofs.Exported.{answers-none}
+use Rattle.heathcinder.proofs.hc_cancel.Goals as goal
+
+pub returns : goal.returns
+returns c = answers-none _ _ refl refl c.cancel.ensures c.status_of.ensures

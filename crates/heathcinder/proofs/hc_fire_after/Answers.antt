@@ -1,0 +1,7 @@
+-- `heathcinder::hc_fire_after` meets its contract: the status is that of `fire_after`'s answer, and the number of that answer is 0, done or refused. Assumes nothing.
+use mathlib.Core.Path.{refl}
+use Rattle.heathcinder.proofs.Exported.{answers-none}
+use Rattle.heathcinder.proofs.hc_fire_after.Goals as goal
+
+pub returns : goal.returns
+returns c = answers-none _ _ refl refl c.fire_after.ensures c.status_of.ensures
