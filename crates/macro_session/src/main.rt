@@ -2,6 +2,8 @@
 // line a step: status, answer, place and last status, in decimal, after the macro's name. The macro 7 is in both libraries, and the bench's own runs: it
 // arms a guard, checks, cancels it, checks, and signs. The macro 8 of the shared library arms it twice in each of two turns, and waits for it. The macro
 // 9 waits for a timer that is not there, and is stopped. The macro 6 arms one that is not there, and its check stops it. Nobody has the macro 5.
+#![tactic(auto)]
+
 ghost use Rattle.std.specs.Prelude.{◌≡◌, ◌+◌, ◌≤◌, length};
 ghost use Rattle.macros.specs.Stepping.{stepped, took};
 
@@ -11,6 +13,7 @@ use macro_library::ENTRY_HEAD;
 use macro_record::Runner;
 use macro_steps::{ARM, CANCEL, CHECK, END, REPEAT, SIGN, STEP_WORDS, WAIT};
 use macros::Stepped;
+use std::io;
 use table::{ONE_PARTY, PARTY_1};
 
 const SLOTS: u32 = 1;
@@ -107,20 +110,15 @@ fn shared_library() -> [u32; SHARED] {
     library
 }
 
-// Prints a number, and a space.
-fn print(number: u32) {
-    io::print_decimal(libc::STDOUT_FILENO, number as u64);
-    io::write_all(libc::STDOUT_FILENO, b" ");
-}
-
 // Prints the line of a step.
-fn line(name: u32, answer: Answer, r: Runner) {
-    print(name);
-    print(status_of(answer));
-    print(number_in(answer));
-    print(r.place);
-    io::print_decimal(libc::STDOUT_FILENO, r.last as u64);
-    io::write_all(libc::STDOUT_FILENO, b"\n");
+fn line(rt: &impl Print, name: u32, answer: Answer, r: Runner) -> io::Result<()> {
+    println!(rt;
+        "{name} {} {} {} {}",
+        status_of(answer),
+        number_in(answer),
+        r.place,
+        r.last
+    )
 }
 
 // One step on a record that is lent for it.
@@ -136,7 +134,7 @@ fn lend(r: Runner, words: &[u32], table: &mut [u32], party: u32) -> Stepped
 }
 
 // So many steps of a macro from a fresh record, with a tick after each.
-fn run(name: u32, words: &[u32], table: &mut [u32], steps: u32) {
+fn run(rt: &impl Print, name: u32, words: &[u32], table: &mut [u32], steps: u32) -> io::Result<()> {
     let mut fired = [0u32; LIST];
     let mut r = Runner {
         place: 0,
@@ -148,26 +146,32 @@ fn run(name: u32, words: &[u32], table: &mut [u32], steps: u32) {
         let s = lend(r, words, table, PARTY_1);
         let answer = s.answer;
         r = s.runner;
-        line(name, answer, r);
+        line(rt, name, answer, r)?;
         clock::tick(table, &mut fired);
         i += 1;
     }
+    Ok(())
 }
 
 // The macros run, by their names.
-fn run_all<'a>(own: &'a [u32], shared: &'a [u32], table: &mut [u32]) {
-    run(7, macro_library::look_up(own, shared, 7), table, 6);
-    run(8, macro_library::look_up(own, shared, 8), table, 27);
-    run(9, macro_library::look_up(own, shared, 9), table, 3);
-    run(6, macro_library::look_up(own, shared, 6), table, 4);
-    run(5, macro_library::look_up(own, shared, 5), table, 1);
+fn run_all<'a>(
+    rt: &impl Print,
+    own: &'a [u32],
+    shared: &'a [u32],
+    table: &mut [u32],
+) -> io::Result<()> {
+    run(rt, 7, macro_library::look_up(own, shared, 7), table, 6)?;
+    run(rt, 8, macro_library::look_up(own, shared, 8), table, 27)?;
+    run(rt, 9, macro_library::look_up(own, shared, 9), table, 3)?;
+    run(rt, 6, macro_library::look_up(own, shared, 6), table, 4)?;
+    run(rt, 5, macro_library::look_up(own, shared, 5), table, 1)
 }
 
-fn main() {
+fn main(rt: HostRuntime) -> io::Result<()> {
     let mut table = [0u32; TABLE];
     timer::lay_out(&mut table, SLOTS, TICKS_PER_SECOND, ONE_PARTY);
     timer::create(&mut table, PARTY_1, 1);
     let own = own_library();
     let shared = shared_library();
-    run_all(&own, &shared, &mut table);
+    run_all(&rt, &own, &shared, &mut table)
 }
