@@ -1,6 +1,9 @@
 // The session of document 01: two timers of a table of three wait for five ticks each, and fire together at the fifth. Prints one line a call:
 // status, a space, answer, both in decimal.
+#![tactic(auto)]
+
 use answers::{Answer, number_in, status_of};
+use std::io;
 use table::{ONE_PARTY, PARTY_1};
 
 const SLOTS: u32 = 3;
@@ -13,31 +16,33 @@ const TABLE: usize = 34;
 const LIST: usize = 9;
 
 // Prints the line of an answer, and gives its number.
-fn line(answer: Answer) -> u32 {
+fn line(rt: &impl Print, answer: Answer) -> io::Result<u32> {
     let number = number_in(answer);
-    io::print_decimal(libc::STDOUT_FILENO, status_of(answer) as u64);
-    io::write_all(libc::STDOUT_FILENO, b" ");
-    io::print_decimal(libc::STDOUT_FILENO, number as u64);
-    io::write_all(libc::STDOUT_FILENO, b"\n");
-    number
+    println!(rt; "{} {number}", status_of(answer))?;
+    Ok(number)
 }
 
 // The two timers start: for 5 ticks each.
-fn start_both(table: &mut [u32]) {
-    line(timer::lay_out(table, SLOTS, TICKS_PER_SECOND, ONE_PARTY));
-    let first = line(timer::create(table, PARTY_1, 1));
-    let second = line(timer::create(table, PARTY_1, 2));
-    line(starts::fire_after(table, PARTY_1, first, 5, 7, 70));
-    line(starts::fire_after(table, PARTY_1, second, 5, 8, 80));
+fn start_both(rt: &impl Print, table: &mut [u32]) -> io::Result<()> {
+    line(
+        rt,
+        timer::lay_out(table, SLOTS, TICKS_PER_SECOND, ONE_PARTY),
+    )?;
+    let first = line(rt, timer::create(table, PARTY_1, 1))?;
+    let second = line(rt, timer::create(table, PARTY_1, 2))?;
+    line(rt, starts::fire_after(table, PARTY_1, first, 5, 7, 70))?;
+    line(rt, starts::fire_after(table, PARTY_1, second, 5, 8, 80))?;
+    Ok(())
 }
 
-fn main() {
+fn main(rt: HostRuntime) -> io::Result<()> {
     let mut table = [0u32; TABLE];
     let mut fired = [0u32; LIST];
-    start_both(&mut table);
-    line(clock::tick(&mut table, &mut fired));
-    line(clock::tick(&mut table, &mut fired));
-    line(clock::tick(&mut table, &mut fired));
-    line(clock::tick(&mut table, &mut fired));
-    line(clock::tick(&mut table, &mut fired));
+    start_both(&rt, &mut table)?;
+    line(&rt, clock::tick(&mut table, &mut fired))?;
+    line(&rt, clock::tick(&mut table, &mut fired))?;
+    line(&rt, clock::tick(&mut table, &mut fired))?;
+    line(&rt, clock::tick(&mut table, &mut fired))?;
+    line(&rt, clock::tick(&mut table, &mut fired))?;
+    Ok(())
 }
