@@ -1,15 +1,18 @@
 // Runs the cases of document 01 and of the requests that stand in `stdin`, one a line: a label, a bar, and the words of a step in decimal, its number
 // first and then its arguments. Prints the label, then status and answer. A line without a bar says which sentences the cases below it are of, and is
 // copied. `stdout` is written by hand from the documents. A new case is a line of both files; a new call is a number and an arm.
-ghost use Rattle.std.specs.Prelude.{◌≤◌, ◌≡◌, length, nat_abs};
+#![tactic(auto)]
+
+ghost use Rattle.std.specs.Prelude.{◌≤◌, ◌≡◌, length, nat_abs, IfOk};
 
 use answers::{Answer, Progress, Reading, Setting};
 use calendar::WallTime;
 use clock::*;
-use libc::{STDIN_FILENO, STDOUT_FILENO};
 use recording::*;
 use server::*;
 use starts::*;
+use std::io;
+use std::io::Read;
 use table::{PARTY_1, SLOT_COUNT, TICKS_PER_SECOND};
 use timer::*;
 
@@ -62,11 +65,6 @@ struct Step {
     e: u32,
 }
 
-fn print(number: u32) {
-    io::write_all(STDOUT_FILENO, b" ");
-    io::print_decimal(STDOUT_FILENO, number as u64);
-}
-
 // How far a number is from zero.
 fn magnitude(number: i64) -> u64
     ensures { result ≡ nat_abs number }
@@ -78,38 +76,25 @@ fn magnitude(number: i64) -> u64
 }
 
 // Prints a number that may be below zero.
-fn print_signed(number: i64) {
-    io::write_all(STDOUT_FILENO, b" ");
-    if number < 0 {
-        io::write_all(STDOUT_FILENO, b"-");
-    }
-    io::print_decimal(STDOUT_FILENO, magnitude(number));
+fn print_signed(rt: &impl Print, number: i64) -> io::Result<()> {
+    let sign = if number < 0 { "-" } else { "" };
+    print!(rt; " {sign}{}", magnitude(number))
 }
 
 // Prints status and answer.
-fn show(answer: Answer) {
+fn show(rt: &impl Print, answer: Answer) -> io::Result<()> {
     match answer {
-        Answer::Done(number) => {
-            print(status::SUCCESSFUL);
-            print(number);
-        }
-        Answer::Refused(refusal) => {
-            print(status::number_of(refusal));
-            print(0);
-        }
+        Answer::Done(number) => print!(rt; " {} {number}", status::SUCCESSFUL),
+        Answer::Refused(refusal) => print!(rt; " {} 0", status::number_of(refusal)),
     }
 }
 
 // Prints status and wall time.
-fn show_time(status: u32, w: WallTime) {
-    print(status);
-    print(w.year);
-    print(w.month);
-    print(w.day);
-    print(w.hour);
-    print(w.minute);
-    print(w.second);
-    print(w.ticks);
+fn show_time(rt: &impl Print, status: u32, w: WallTime) -> io::Result<()> {
+    print!(rt;
+        " {status} {} {} {} {} {} {} {}",
+        w.year, w.month, w.day, w.hour, w.minute, w.second, w.ticks
+    )
 }
 
 // The wall time whose date and time of day have these decimal digits.
@@ -126,38 +111,39 @@ fn wall_time(date: u32, time: u32, ticks: u32) -> WallTime {
 }
 
 // Prints what set clock answers: status, count and how far the clock moved.
-fn show_setting(setting: Setting) {
+fn show_setting(rt: &impl Print, setting: Setting) -> io::Result<()> {
     let answer = setting.answer;
     let moved = setting.moved;
-    show(answer);
-    print_signed(moved);
+    show(rt, answer)?;
+    print_signed(rt, moved)
 }
 
 // Prints what leap answers: status, count and the ticks done.
-fn show_progress(progress: Progress) {
+fn show_progress(rt: &impl Print, progress: Progress) -> io::Result<()> {
     let answer = progress.answer;
     let done = progress.done;
-    show(answer);
-    print(done);
+    show(rt, answer)?;
+    print!(rt; " {done}")
 }
 
 // Prints what get clock answers: seven zeros where it is refused.
-fn show_reading(reading: Reading) {
+fn show_reading(rt: &impl Print, reading: Reading) -> io::Result<()> {
     match reading {
-        Reading::Time(w) => show_time(status::SUCCESSFUL, w),
-        Reading::Unread(refusal) => show_time(status::number_of(refusal), wall_time(0, 0, 0)),
+        Reading::Time(w) => show_time(rt, status::SUCCESSFUL, w),
+        Reading::Unread(refusal) => show_time(rt, status::number_of(refusal), wall_time(0, 0, 0)),
     }
 }
 
 // Prints so many words of the list.
-fn print_list(list: &[u32; LIST], count: u32) {
+fn print_list(rt: &impl Print, list: &[u32; LIST], count: u32) -> io::Result<()> {
     let mut i = 0;
     while i < LIST {
         if (i as u32) < count {
-            print(list[i]);
+            print!(rt; " {}", list[i])?;
         }
         i += 1;
     }
+    Ok(())
 }
 
 // Makes a call that is lent a word too few for three slots. Any other number is no step's.
@@ -223,31 +209,43 @@ fn call(
 }
 
 // Sets the clock, lent a word too few for three slots.
-fn set_short(table: &mut [u32; TABLE], time: WallTime) {
+fn set_short(rt: &impl Print, table: &mut [u32; TABLE], time: WallTime) -> io::Result<()> {
     let mut list = [0u32; LIST - 1];
-    show_setting(set_clock(table, time, &mut list));
+    show_setting(rt, set_clock(table, time, &mut list))
 }
 
 // Leaps, lent a word too few for three slots.
-fn leap_short(table: &mut [u32; TABLE], ticks: u32) {
+fn leap_short(rt: &impl Print, table: &mut [u32; TABLE], ticks: u32) -> io::Result<()> {
     let mut list = [0u32; LIST - 1];
-    show_progress(leap(table, ticks, &mut list));
+    show_progress(rt, leap(table, ticks, &mut list))
 }
 
 // Takes a step and prints what comes of it.
-fn play(step: Step, party: u32, table: &mut [u32; TABLE], list: &mut [u32; LIST]) {
+fn play(
+    rt: &impl Print,
+    step: Step,
+    party: u32,
+    table: &mut [u32; TABLE],
+    list: &mut [u32; LIST],
+) -> io::Result<()> {
     let number = step.number;
     match number {
-        NONE => {}
-        SET_CLOCK => show_setting(set_clock(table, wall_time(step.a, step.b, step.c), list)),
-        SHORT_SET_CLOCK => set_short(table, wall_time(step.a, step.b, step.c)),
-        LEAP => show_progress(leap(table, step.a, list)),
-        SHORT_LEAP => leap_short(table, step.a),
-        GET_CLOCK => show_reading(get_clock(table)),
-        PRINT_LIST => print_list(list, step.a),
-        _ => show(call(
-            number, party, step.a, step.b, step.c, step.d, step.e, table, list,
-        )),
+        NONE => Ok(()),
+        SET_CLOCK => show_setting(
+            rt,
+            set_clock(table, wall_time(step.a, step.b, step.c), list),
+        ),
+        SHORT_SET_CLOCK => set_short(rt, table, wall_time(step.a, step.b, step.c)),
+        LEAP => show_progress(rt, leap(table, step.a, list)),
+        SHORT_LEAP => leap_short(rt, table, step.a),
+        GET_CLOCK => show_reading(rt, get_clock(table)),
+        PRINT_LIST => print_list(rt, list, step.a),
+        _ => show(
+            rt,
+            call(
+                number, party, step.a, step.b, step.c, step.d, step.e, table, list,
+            ),
+        ),
     }
 }
 
@@ -291,17 +289,17 @@ fn word(line: &[u8], bar: usize, spaces: u32) -> u32 {
 }
 
 // Copies a line up to its bar, and reads the step behind it.
-fn step_of(line: &[u8]) -> Step {
+fn step_of(rt: &impl Print, line: &[u8]) -> io::Result<Step> {
     let bar = find(line, 0, b'|');
-    io::write_all(STDOUT_FILENO, &line[0..bar]);
-    Step {
+    rt.write_all(&line[0..bar])?;
+    Ok(Step {
         number: word(line, bar, 1),
         a: word(line, bar, 2),
         b: word(line, bar, 3),
         c: word(line, bar, 4),
         d: word(line, bar, 5),
         e: word(line, bar, 6),
-    }
+    })
 }
 
 // Who calls after a step.
@@ -313,22 +311,38 @@ fn caller_after(step: Step, party: u32) -> u32 {
 }
 
 // Runs the lines of a text, each with the newline before it.
-fn run(text: &[u8]) {
+fn run(rt: &impl Print, text: &[u8]) -> io::Result<()> {
     let mut table = [0u32; TABLE];
     let mut list = [0u32; LIST];
     let mut party = PARTY_1;
     let mut at = 0;
     while at < text.len() {
         let end = find(text, at + 1, b'\n');
-        let step = step_of(&text[at..end]);
+        let step = step_of(rt, &text[at..end])?;
         party = caller_after(step, party);
-        play(step, party, &mut table, &mut list);
+        play(rt, step, party, &mut table, &mut list)?;
         at = end;
     }
+    Ok(())
 }
 
-fn main() {
+// Reads until the buffer is full or the input at its end, and gives how many bytes there were.
+fn read_full(reader: &mut impl Read, buffer: &mut [u8]) -> io::Result<usize>
+    ensures { IfOk result (λ n. n ≤ length buffer.new) }
+{
+    let mut n = 0;
+    while n < buffer.len() {
+        let count = reader.read(&mut buffer[n..])?;
+        if count == 0 {
+            return Ok(n);
+        }
+        n += count;
+    }
+    Ok(n)
+}
+
+fn main(rt: HostRuntime) -> io::Result<()> {
     let mut text = [0u8; TEXT];
-    let n = io::read_full(STDIN_FILENO, &mut text);
-    run(&text[..n]);
+    let n = read_full(&mut rt.reader(), &mut text)?;
+    run(&rt, &text[..n])
 }
