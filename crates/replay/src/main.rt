@@ -1,13 +1,15 @@
 // Replays the recording on standard input and prints one line: the place, from 0, of the first call whose status differs, or "agree", or "refused",
-// a space and the position, from 0, of the first wrong word. Nothing is replayed where it is refused. A write that fails leaves nothing to do: there is no
-// exit status, so its answer is not looked at.
-ghost use Rattle.std.specs.Prelude.{◌≡◌, ◌⊎◌};
+// a space and the position, from 0, of the first wrong word. Nothing is replayed where it is refused.
+#![tactic(auto)]
+
+ghost use Rattle.std.specs.Prelude.{◌≡◌, ◌≤◌, ◌⊎◌, length, IfOk};
 ghost use Rattle.playback.specs.Replay.{status_of};
 
 use going_on::ENTRY;
-use libc::{STDIN_FILENO, STDOUT_FILENO};
 use playback::Replayed;
 use recording::{CALL_WORDS, FRONT, MOST_CALLS, WORD};
+use std::io;
+use std::io::Read;
 use table::{HEADER, MOST_SLOTS, SLOT};
 
 // The words of the longest recording: its numbers, its calls, their count again and a status each.
@@ -21,38 +23,16 @@ const TABLE: usize = HEADER + SLOT * (MOST_SLOTS as usize);
 
 const LIST: usize = ENTRY * (MOST_SLOTS as usize);
 
-// Prints a number and ends the line.
-fn print_number(number: u32) {
-    io::print_decimal(STDOUT_FILENO, number as u64);
-    io::write_all(STDOUT_FILENO, b"\n");
-}
-
-// Nothing comes here: no caller can ask for it.
-fn unreached()
-    requires { ⊥ }
-{}
-
 // Prints what came of a replay on a table and a list that were not too short.
-fn show(replayed: Replayed)
+fn show(rt: &impl Print, replayed: Replayed) -> io::Result<()>
     requires { (status_of replayed ≡ 0) ⊎ (status_of replayed ≡ 10) }
 {
     match replayed {
-        Replayed::Agree => {
-            io::write_all(STDOUT_FILENO, b"agree\n");
-        }
-        Replayed::Differs(place) => {
-            print_number(place);
-        }
-        Replayed::Refused(position) => {
-            io::write_all(STDOUT_FILENO, b"refused ");
-            print_number(position);
-        }
-        Replayed::ShortTable => {
-            unreached();
-        }
-        Replayed::ShortList => {
-            unreached();
-        }
+        Replayed::Agree => println!(rt; "agree"),
+        Replayed::Differs(place) => println!(rt; "{place}"),
+        Replayed::Refused(position) => println!(rt; "refused {position}"),
+        Replayed::ShortTable => unreachable!(),
+        Replayed::ShortList => unreachable!(),
     }
 }
 
@@ -65,8 +45,23 @@ fn replay_any(bytes: &[u8]) -> Replayed
     playback::replay(bytes, &mut table, &mut list)
 }
 
-fn main() {
+// Reads until the buffer is full or the input at its end, and gives how many bytes there were.
+fn read_full(reader: &mut impl Read, buffer: &mut [u8]) -> io::Result<usize>
+    ensures { IfOk result (λ n. n ≤ length buffer.new) }
+{
+    let mut n = 0;
+    while n < buffer.len() {
+        let count = reader.read(&mut buffer[n..])?;
+        if count == 0 {
+            return Ok(n);
+        }
+        n += count;
+    }
+    Ok(n)
+}
+
+fn main(rt: HostRuntime) -> io::Result<()> {
     let mut bytes = [0u8; MOST_BYTES];
-    let n = io::read_full(STDIN_FILENO, &mut bytes);
-    show(replay_any(&bytes[..n]));
+    let n = read_full(&mut rt.reader(), &mut bytes)?;
+    show(&rt, replay_any(&bytes[..n]))
 }
