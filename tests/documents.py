@@ -13,7 +13,7 @@ With a folder, one of installed pages, only the links of those. Else:
   order; before them 100 where it is a call on a table, and 4 where it is one of a party, behind 101, and once where the id's is the
   next; docs/RULES.md's table of rules has the same of the calls on a table. Macros take a table too, but give statuses of their own.
 - README.md and docs/KERNEL.md have a row for every status, docs/RTEMS.md names every call with a table.
-- docs/RULES.md: a name in backquotes as `Sound.headerTests` is that of a definition in Sound.antt of a crate. In
+- docs/RULES.md: a name in backquotes as `Sound.header_tests` is that of a definition in Sound.antt of a crate. In
   docs/ARCHITECTURE.md and docs/DECISIONS.md it may be a field of a record too, as `Standing.clock`.
 - Blocks of code that are marked behind the language's name. Those of one document share a folder, in which the repository's
   folders are to be found too:
@@ -70,9 +70,9 @@ def check_links(page):
 
 
 def check_paths(page):
-    """Paths that are there only when something was made (target/), or named by a pattern in capitals, are left out."""
+    """Paths that are there only when something was made (target/, out/), or named by a pattern in capitals, are left out."""
     for path in re.findall(r"`((?:%s)/[\w./*-]+)`" % "|".join(FOLDERS), BLOCK.sub("", page.read_text())):
-        if path.startswith("target/") or re.search(r"/[A-Z]+(/|\.|$)", path) and not (ROOT / path).exists():
+        if path.startswith("target/") or "/out/" in path or re.search(r"/[A-Z]+(/|\.|$)", path) and not (ROOT / path).exists():
             continue
         if not any(ROOT.glob(path.rstrip("/"))) and not any(ROOT.glob(path + ".antt")):
             fail(page, "there is no %s" % path)

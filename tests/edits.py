@@ -1,14 +1,14 @@
 #!/usr/bin/env python3
-"""Tries the wrong answers that `rt ci` does not: python3 tests/edits.py [--alone] [CRATE | CRATE/EDIT]..
+"""Tries the wrong answers that `rt ci` does not: python3 tests/edits.py [--alone] [--every] [CRATE | CRATE/EDIT]..
 
 The edits in crates/CRATE/edits have the form of those in crates/CRATE/must-fail, and the prover must refuse each. For an edit in
-must-fail `rt ci` checks its crate from nothing; here two things make it shorter. What an edit does not change the prover takes from the
-check before. And edits of the bodies of different functions are tried in one check: what the prover asks of a function depends on its own
-body and on the contracts of those that it calls, not on their bodies. So each must be refused at its own function, for another reason than
-that something it cites is refused; one that is not is tried again by itself, as all are under --alone.
+must-fail `rt ci` makes a check of its own, begun with what the crate's check proved. Here edits of the bodies of different functions are
+tried in one check: what the prover asks of a function depends on its own body and on the contracts of those that it calls, not on their
+bodies. So each must be refused at its own function, for another reason than that something it cites is refused; one that is not is tried
+again by itself, as all are under --alone. With --every those in must-fail are tried too: `rt ci` keeps no report on them.
 
-The tree must be proved (`rt check` or `rt ci`). Edits are tried in copies of it, as many at a time as there are cores. What the prover
-says of an edit stays in target/edits/CRATE/EDIT.log. An edit that it does not refuse makes the run fail."""
+The tree must be proved by `rt all check`, whose libraries the checks here stand on (those of `rt ci` it keeps for itself). Edits are tried in
+copies of it, as many at a time as there are cores. What the prover says of an edit stays in target/edits/CRATE/EDIT.log. An edit that it does not refuse makes the run fail."""
 import os
 import queue
 import re
@@ -25,6 +25,8 @@ LOGS = ROOT / "target" / "edits"
 CHECKS_AT_ONCE = 50  # checks of one crate that one worker takes
 CHECKS_TO_PREPARE = 10  # from so many on, the crate is checked as it is first, and each check goes on from there
 PARTS = "src", "specs", "proofs"
+# How the prover says that it refuses something only since it cites something that is refused.
+CITES_REFUSED = re.compile(r"that depends? on .* rejected")
 printing = threading.Lock()
 
 
@@ -43,14 +45,17 @@ class Code:
             text = path.read_text()
             found = []
             for each in re.finditer(r"^[^/\n]*\bfn (\w+)", text, re.M):
-                begin = text.find("\n{\n", each.end())
+                begin = text.find("{\n", each.end())
                 end = text.find("\n}\n", begin)
                 if begin < 0 or end < 0 or re.search(r"^[^/\n]*\bfn \w+", text[each.end():end], re.M):
-                    sys.exit("edits: the body of %s in %s has not its own lines { and }" % (each[1], path.relative_to(ROOT)))
+                    sys.exit("edits: the body of %s in %s does not end by a line }" % (each[1], path.relative_to(ROOT)))
                 found.append((each[1], begin, end))
             self.bodies[str(path.relative_to(home))] = found
-        # functions that call one another have one proof, in a folder +f+g
-        self.proofs = {name: folder.name for folder in (home / "proofs").glob("+*") for name in folder.name.split("+")}
+        # a function that calls itself has its proof in a folder +f, and functions that call one another have one, in a folder +cycle
+        self.proofs = {folder.name[1:]: folder.name for folder in (home / "proofs").glob("+*")}
+        for path in (home / "src").rglob("*.rt"):
+            for cycle, name in re.findall(r"^#\[cycle\((\w+)\)\]\n(?:#.*\n)*[^/\n]*\bfn (\w+)", path.read_text(), re.M):
+                self.proofs[name] = "+" + cycle
 
     def proof(self, path, begin, end):
         """The folder of the proof of the function in whose body this part of a file lies, or nothing."""
@@ -101,9 +106,9 @@ class Edit:
         kept = []
         for line in report.splitlines():
             error = re.search(r"/proofs/([^/: ]+)/[^: ]*:\d+:\d+: error: (.*)", line)
-            if error and error[1] in self.proofs and "was not admitted" not in error[2]:
+            if error and error[1] in self.proofs and not CITES_REFUSED.search(error[2]):
                 kept.append(line)
-            needs = re.match(r"fn \w+::(\S+): no proof: .* does not close ", line)
+            needs = re.match(r"fn \w+::(\S+): no proof: .*`search` did not prove ", line)
             if needs and needs[1] in self.proofs:
                 kept.append(line)
         return kept
@@ -122,16 +127,16 @@ def groups(edits, alone):
     return found
 
 
-def chosen(words):
-    """The edits to try, by crate."""
+def chosen(words, folders):
+    """The edits of these folders to try, by crate."""
     found, named = {}, set()
-    for path in sorted((ROOT / "crates").glob("*/edits/*.edit")):
+    for path in sorted(path for folder in folders for path in (ROOT / "crates").glob("*/%s/*.edit" % folder)):
         crate, names = path.parent.parent.name, {path.parent.parent.name, "%s/%s" % (path.parent.parent.name, path.stem)}
         if not words or names & set(words):
             found.setdefault(crate, []).append(path)
             named |= names
     for word in set(words) - named:
-        sys.exit("edits: there is no edit %s in crates/*/edits" % word)
+        sys.exit("edits: there is no edit %s in crates/*/%s" % (word, " or ".join(folders)))
     return found
 
 
@@ -140,14 +145,21 @@ class Worker:
 
     def __init__(self, folder, failed):
         self.folder, self.failed = folder, failed
-        shutil.copytree(ROOT / "crates", folder / "crates", ignore=shutil.ignore_patterns("must-fail", "edits"))
-        shutil.copy(ROOT / "crates.txt", folder)
-        for part in "rlib", "stamp":
-            shutil.copytree(ROOT / "target" / part, folder / "target" / part)
+        # of what a check kept the libraries alone: the check of a crate finds by itself what was kept of it here
+        shutil.copytree(ROOT / "crates", folder / "crates", ignore=lambda at, names: [
+            name for name in names if name in ("must-fail", "edits") or Path(at).name == "out" and name != "rlib"])
+        for name in "crates.txt", "HANDLES":
+            if (ROOT / name).exists():
+                shutil.copy(ROOT / name, folder)
 
     def check(self, crate):
-        run = subprocess.run(["rt", "dev", crate], cwd=self.folder, stdout=subprocess.PIPE, stderr=subprocess.STDOUT, text=True)
+        run = subprocess.run(["rt", "check", "--jobs", "1"], cwd=self.folder / "crates" / crate,
+                             stdout=subprocess.PIPE, stderr=subprocess.STDOUT, text=True)
         return run.returncode, run.stdout
+
+    def kept(self, crate):
+        """Where checks of a crate keep what they checked."""
+        return self.folder / "crates" / crate / "out" / "incremental"
 
     def restore(self, crate):
         for part in PARTS:
@@ -172,8 +184,8 @@ class Worker:
         took = time.monotonic() - began
         self.restore(crate)
         if kept:
-            shutil.rmtree(self.folder / "target" / "inc" / crate)
-            shutil.copytree(kept, self.folder / "target" / "inc" / crate)
+            shutil.rmtree(self.kept(crate))
+            shutil.copytree(kept, self.kept(crate))
         refused = status == 1 and re.search("^logic=not-proved", report, re.M)
         left = []
         for edit in group:
@@ -211,7 +223,7 @@ class Worker:
                     say("%s: not proved as it is" % crate)
                     self.failed.append(crate)
                     continue
-                shutil.copytree(self.folder / "target" / "inc" / crate, kept)
+                shutil.copytree(self.kept(crate), kept)
             left = [edit for group in checks for edit in self.attempt(crate, group, kept)]
             for edit in left:
                 self.attempt(crate, [edit], kept)
@@ -220,7 +232,8 @@ class Worker:
 def main():
     words = sys.argv[1:]
     alone = "--alone" in words
-    found = chosen([word for word in words if word != "--alone"])
+    folders = ["edits", "must-fail"] if "--every" in words else ["edits"]
+    found = chosen([word for word in words if word not in ("--alone", "--every")], folders)
     checks, failed, count = [], [], 0
     for crate, paths in found.items():
         code = Code(crate)

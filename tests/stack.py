@@ -20,10 +20,10 @@ from pathlib import Path
 ROOT = Path(__file__).resolve().parent.parent
 PAGE = ROOT / "docs" / "KERNEL.md"
 BEGIN, END = "<!-- stack: made by tests/stack.py -->\n", "<!-- /stack -->\n"
-# One frame a slot of the chain; nine for a macro, whose blocks are at most eight repeats deep.
-RECURSIVE = {"links::ticks_to": 255, "macro_check::check_block": 9, "macro_check::check_step": 9}
+# Nine frames for a macro, whose blocks are at most eight repeats deep.
+RECURSIVE = {"macro_check::check_block": 9}
 # Jumps by a table of constants, without 'notrack': where indirect branch tracking is on, the processor stops at them.
-JUMPING = {"server_check::last_queued", "soundness::is_sound", "macros::step_value", "hc_recording_replay", "hc_fire_after_seconds"}
+JUMPING = {"server_check::last_queued", "soundness::is_sound", "hc_recording_replay", "hc_fire_after_seconds"}
 # The calls that take a number of seconds, and tell by a comparison with itself whether it is one.
 COMPARING = {"hc_seconds_to_ticks", "hc_fire_after_seconds", "delay::seconds_to_ticks", "delayed::fire_after_delay"}
 ADDRESS = 8

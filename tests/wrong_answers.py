@@ -1,5 +1,5 @@
 #!/usr/bin/env python3
-"""Writes the page of wrong answers, from the edits and from what the prover said of each in the last `rt ci` and `tests/edits.py`:
+"""Writes the page of wrong answers, from the edits and from what the prover said of each in the last `tests/edits.py --every`:
 
     python3 tests/wrong_answers.py > docs/wrong-answers.md
 
@@ -26,7 +26,7 @@ def fail(why):
 
 def crates():
     for line in (ROOT / "crates.txt").read_text().splitlines():
-        yield line.split(":")[0]
+        yield line.split(":")[0].split()[0]
 
 
 def edits(crate):
@@ -48,17 +48,16 @@ def public_functions(crate):
 
 def places(crate, edit):
     """Where the prover refused an edit, in the order of its report."""
-    logs = ROOT / "target" / "must-fail" / crate / edit / ".log", ROOT / "target" / "edits" / crate / (edit + ".log")
-    log = next(filter(Path.exists, logs), None)
-    if not log:
-        fail("no report on %s/%s: run rt ci and tests/edits.py first" % (crate, edit))
+    log = ROOT / "target" / "edits" / crate / (edit + ".log")
+    if not log.exists():
+        fail("no report on %s/%s: run tests/edits.py --every first" % (crate, edit))
     found = {}
     for line in log.read_text().splitlines():
         error = re.search(r"/(?:proofs|specs)/([^: ]+)\.antt:\d+:\d+: error: `([^`]+)`: (.*)", line)
-        if error and "was not admitted" not in error[3]:
-            found.setdefault(error[1].removesuffix("/Proof"), {})[error[2]] = None
+        if error:
+            found.setdefault(re.sub("/(Answers|Invariants|Proof)$", "", error[1]), {})[error[2]] = None
         # a function with no proof of its own, whose needs the prover finds by itself
-        needs = re.match(r"fn \w+::(\S+): no proof: .* does not close (.*)", line)
+        needs = re.match(r"fn \w+::(\S+): no proof: .*`search` did not prove (.*)", line)
         if needs:
             found.setdefault(needs[1].replace("::", "/"), {}).update(dict.fromkeys(re.findall("`([^`]+)`", needs[2])))
     return "; ".join("%s: %s" % (file, ", ".join("`%s`" % name for name in names)) for file, names in found.items())
@@ -71,7 +70,7 @@ def rows(crate):
         if count < 2:
             fail("%d edits of %s name %s" % (count, crate, function))
     for name, of, wrong in sorted(listed, key=lambda row: (row[1], row[0])):
-        yield "| %s | %s | `%s` |" % (of, wrong, name), places(crate, name)
+        yield "| %s | %s | `%s` |" % (of, wrong, name), name
 
 
 def page():
@@ -80,7 +79,7 @@ def page():
         table = list(rows(crate))
         if table:
             lines += ["## %s\n" % crate, "| Of | Wrong answer | Edit | Refused at |\n|---|---|---|---|"]
-            lines += ["%s %s |" % row for row in table]
+            lines += ["%s %s |" % (row, places(crate, name)) for row, name in table]
             lines.append("")
     return "\n".join(lines)
 
