@@ -7,11 +7,20 @@ use lib.Dec.{eqb}
 use lib.Ieee.{Float}
 use Rattle.model.specs.Calls.{fire_after}
 use Rattle.model.specs.Words.{ticks_per_second}
-use Rattle.model.specs.Outcome.{Outcome, outcome_of, status_on, refused, accepted, outcome}
+use Rattle.model.specs.Outcome.{first_number, Outcome, outcome_of, status_on, refused, accepted, outcome}
+use Rattle.answers.specs.declared.Answer.{Answer}
+use Rattle.answers.specs.Answers.{status_of, answer_of}
 use Rattle.delay.specs.declared.Delay.TheVariants.{Seconds}
-use Rattle.delay.specs.Seconds.{converted}
+use Rattle.delay.specs.Seconds.{conversion, conversion_of, converted}
+use Rattle.delay.specs.Exact.{Exact}
 use Rattle.delayed.specs.Starts.{started}
 use Rattle.delayed.proofs.Seconds.{after-ticks}
+
+-- the numbers of a conversion
+pub numbered : (x : Float) (rate : ℕ) (a : Answer) (status ticks : ℕ) → status ≡ status_of a → ticks ∷ [] ≡ answer_of a
+    → (conversion_of a ≡ converted x rate) × Exact x rate (conversion_of a)
+    → (conversion status ticks ≡ converted x rate) × Exact x rate (conversion status ticks)
+numbered x rate a status ticks s n h = rw (s, ap first_number n) h
 
 -- a start for ticks answers 0
 silent : (b : Bool) (status : ℕ) (t : List ℕ) (party id n routine user_data : ℕ) → let c = fire_after party id n routine user_data in

@@ -1,12 +1,12 @@
 -- The tests of next due, of which the code makes one at a time: where one fails the call is refused, where all pass it answers the first wait. Assumes nothing.
 use mathlib.Core.Path.{◌≡◌, refl, sym, ap, ◌∙◌}
-use Prim.Native.Nat.{ℕ, ◌≤◌, ◌<◌}
+use Prim.Native.Nat.{ℕ, ◌+◌, ◌*◌, ◌≤◌, ◌<◌}
 use native.Mathlib.Omega.{arith}
-use mathlib.Core.Bool.{Bool, true, false, not, ◌||◌}
+use mathlib.Core.Bool.{Bool, true, false, not, ◌||◌, and-true}
 use mathlib.Core.List.{List, [], ◌∷◌}
-use lib.ListN.{get_or, take}
-use lib.Dec.{ltb, eqb}
-use borrow.Author.Tests.{le-leb, lt-leb, lt-ltb, eq-eqb, ne_eqb}
+use lib.ListN.{length, get_or, take}
+use lib.Dec.{leb, ltb, eqb}
+use borrow.Author.Tests.{leb-true, le-leb, lt-leb, lt-ltb, eq-eqb, ne_eqb}
 use Rattle.calendar.specs.Calendar.{all_of}
 use Rattle.model.specs.declared.Chain.TheVariants.{ByTicks}
 use Rattle.model.specs.declared.Status.TheVariants.{NotSound}
@@ -28,6 +28,15 @@ module _ (t : List ℕ) where
 
   abbrev i : ℕ
   i = first_ticking t
+
+  -- ---- the slice, and N
+
+  pub no_room : (k : ℕ) → get_or room k true ≡ false → false ≡ all_of room
+  no_room k e = sym (not-all room k e)
+
+  pub room-decides : 10 ≤ length t → 1 ≤ slot_count t → slot_count t ≤ 255 → leb (10 + 8 * slot_count t) (length t) ≡ all_of room
+  room-decides long some few =
+      sym (rw (le-leb 10 (length t) long, le-leb 1 (slot_count t) some, le-leb (slot_count t) 255 few) (and-true (leb (10 + 8 * slot_count t) (length t))))
 
   -- ---- the call is refused
 
@@ -52,6 +61,9 @@ module _ (t : List ℕ) where
   -- ---- it answers
 
   module _ (ok : all_of room ≡ true) where
+    pub is-long : 10 + 8 * slot_count t ≤ length t
+    is-long = leb-true (10 + 8 * slot_count t) (length t) (all-at room ok 1)
+
     answers : i ≤ slot_count t → (eqb i 0 || waits_in ByTicks (kind_of t i)) ≡ true → (eqb i 0 || ltb 0 (wait_of t i)) ≡ true → (n : ℕ) → n ≡ first_wait t
         → outcome_of 0 (n ∷ []) t [] ≡ outcome t next_due
     answers high waits wait n e =

@@ -2,7 +2,7 @@
 -- front of those that are the party's own. Assumes nothing.
 use mathlib.Core.Path.{◌≡◌, refl, sym, ap, ◌∙◌}
 use mathlib.Core.Logic.{◌≢◌}
-use Prim.Native.Nat.{ℕ, suc, ◌+◌, ◌*◌, ◌≤◌, ◌<◌}
+use Prim.Native.Nat.{ℕ, zero, suc, ◌+◌, ◌*◌, ◌≤◌, ◌<◌}
 use native.Mathlib.Omega.{arith}
 use mathlib.Core.Bool.{Bool, true, false, cond}
 use mathlib.Core.List.{List, [], ◌∷◌, ◌++◌, append_assoc, append-nil}
@@ -15,9 +15,9 @@ use Rattle.model.specs.Parties.{owner_of}
 use Rattle.model.specs.State.{Link, without}
 use Rattle.model.specs.Directives.{is_own, front}
 use Rattle.model.specs.Words.{first, read, party_split, first_queued, next_of}
-use Rattle.laws.proofs.ListLaws.{cases, keep_append, count-append}
+use Rattle.laws.proofs.ListLaws.{cases, clash, keep_append, count-append}
 use Rattle.laws.proofs.WellFormed.{times_in, Holds}
-use Rattle.laws.proofs.Chains.{without-none, met-in-range}
+use Rattle.laws.proofs.Chains.{without-none, once, met-in-range}
 use Rattle.links.proofs.LinkInMiddle.{times-at, mid-stands, mid-own, mid-once}
 use Rattle.firing.proofs.Heads.{head_of}
 
@@ -162,6 +162,14 @@ module _ {t : List ℕ} {party i : ℕ} (a : Passed t party i) where
 
     owned : is_own (read t) party here.entry ≡ eqb (owner_of (party_split t) i) party
     owned = ap (λ (j : ℕ). eqb (owner_of (party_split t) j) party) (sym here.slot)
+
+    pub walk-found : owner_of (party_split t) i ≡ party → i ≡ first (front (read t) party)
+    walk-found e =
+        here.slot
+        ∙ sym (ap (λ (l : List Link). first (take 1 (keep (is_own (read t) party) l))) here.whole_is
+        ∙ ap (λ (l : List Link). first (take 1 l))
+        (first-kept (is_own (read t) party) a.others here.entry here.behind a.not-those
+        (owned ∙ eq-eqb (owner_of (party_split t) i) party e)))
 
     pub walk-on : (owner_of (party_split t) i ≡ party → ⊥) → Passed t party (next_of t i)
     walk-on n =

@@ -3,11 +3,13 @@
 use Prim.Native.Nat.{ℕ, ◌≤◌, ◌<◌}
 use mathlib.Core.Path.{◌≡◌, refl, sym, ap, ap₂, ◌∙◌}
 use mathlib.Core.Logic.{◌≢◌}
-use mathlib.Core.Bool.{Bool, true, false, cond, ◌&&◌, and-true}
+use mathlib.Core.Bool
+use mathlib.Core.Bool.{Bool, true, false, cond, not, ◌&&◌, and-true}
 use mathlib.Core.List.{List}
+use native.Mathlib.Nat.{pos_of_ne-zero}
 use native.Mathlib.Omega.{arith}
 use lib.Dec.{ltb, eqb}
-use borrow.Author.Tests.{eqb-true, eqb-false}
+use borrow.Author.Tests.{eqb-true, eqb-false, le-ltb, lt-ltb}
 use Rattle.model.specs.declared.Chain.{Chain}
 use Rattle.model.specs.declared.Chain.TheVariants.{ByTicks, ByDate, Queue}
 use Rattle.model.specs.declared.Mode.TheVariants.{Every, ServerAfter, ServerWhen}
@@ -19,6 +21,22 @@ use Rattle.table.proofs.KindTests.{ticking-is, dated-is, new_apart}
 use Rattle.word_checks.specs.Tested.{new_tested, idle_tested, slot_tested}
 use Rattle.word_checks.proofs.SlotTests.{kind-fails, name-fails, routine-fails, new-slot, as-kind, rest, waiting-ticks, waiting-every, waiting-date, idle, idle-low}
 use Rattle.server_word_checks.specs.Places.{head_of, place_of}
+
+-- zero just where the last start was by date
+pub zero-where : (x : ℕ) (dated : Bool) → Bool.beq (eqb x 0) dated ≡ cond dated (eqb x 0) (ltb 0 x)
+zero-where x dated =
+    cases (eqb x 0)
+    (λ e. at true e (le-ltb 0 x (omega (arith, eqb-true x 0 e))))
+    (λ e. at false e (lt-ltb 0 x (pos_of_ne-zero (eqb-false x 0 e))))
+  where
+    beq : (b d : Bool) → Bool.beq b d ≡ cond d b (not b)
+    beq true true = refl
+    beq true false = refl
+    beq false true = refl
+    beq false false = refl
+
+    at : (b : Bool) → eqb x 0 ≡ b → ltb 0 x ≡ not b → Bool.beq (eqb x 0) dated ≡ cond dated (eqb x 0) (ltb 0 x)
+    at b e f = rw (e, f) (beq b dated)
 
 -- a kind that is not in a chain is none of those that are
 other : (k : Chain) (n m : ℕ) → waits_in k n ≡ false → waits_in k m ≡ true → n ≢ m

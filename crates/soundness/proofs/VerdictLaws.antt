@@ -1,7 +1,8 @@
 -- What a verdict says, and what the number says from which it is made: no slot has the number 256, so that it tells just the tables that are not sound.
 -- Assumes nothing.
 use Prim.Native.Nat.{ℕ, ◌<◌}
-use mathlib.Core.Path.{◌≡◌, sym, ap, ◌∙◌}
+use mathlib.Core.Path.{◌≡◌, refl, sym, ap, ◌∙◌}
+use mathlib.Core.Logic.{◌≢◌}
 use mathlib.Core.Bool.{Bool, true, false, cond, not}
 use mathlib.Core.List.{List}
 use native.Mathlib.Omega.{arith}
@@ -12,6 +13,7 @@ use Rattle.laws.proofs.ListLaws.{cases, all-at}
 use Rattle.word_checks.proofs.HeaderTests.{header-ranges}
 use Rattle.server_check.specs.LastSlots.{last_queued, last_if_sound}
 use Rattle.server_check.proofs.LastSlot.{last-in-table}
+use Rattle.soundness.specs.declared.Verdict.{Verdict}
 use Rattle.soundness.specs.declared.Verdict.TheVariants.{Unsound, Sound}
 use Rattle.soundness.specs.Verdicts.{verdict}
 
@@ -42,3 +44,9 @@ module _ (t : List ℕ) where
 
   pub is-unsound : last_if_sound t ≡ 256 → false ≡ sound t
   is-unsound z = cases (sound t) (λ e. absurd (omega (arith, z, found e, few e))) (λ e. sym e)
+
+  pub is-sound : last_if_sound t ≢ 256 → sound t ≡ true
+  is-sound n = cases (sound t) (λ e. e) (λ e. absurd (n (not_found e)))
+
+  pub is_last : last_if_sound t ≢ 256 → last_queued t ≡ last_if_sound t
+  is_last n = sym (found (is-sound n))

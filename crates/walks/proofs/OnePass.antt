@@ -29,7 +29,7 @@ use Rattle.walks.proofs.StepTests.{in-ticks, in-queue}
 use Rattle.walks.proofs.CountsAddUp.{times}
 use Rattle.walks.proofs.NoSlotTwice.{along-first}
 use Rattle.walks.proofs.WalkDecidesChain.{waits_sound, walk, walked, met-once}
-use Rattle.walks.proofs.UntestedFollows.{Slots, Queued, queued, queue-walk, Apart, Dated, kinds, within, ticks-whole, ticks-tested, dates-whole, dates-tested, interval-low, stands-behind}
+use Rattle.walks.proofs.UntestedFollows.{Slots, Queued, queued, queue-walk, Ticking, Apart, Dated, kinds, within, ticks-whole, ticks-tested, dates-whole, dates-tested, interval-low, stands-behind}
 
 -- ---- the whole
 
@@ -296,6 +296,12 @@ module _ {server : Bool} {t : List ℕ} {n i : ℕ} {x y z : Stand} (p : Passing
 
     here : sound t ≡ left_tested server t n i (suc more) x y z
     here = p.left ∙ ap (λ (m : ℕ). left_tested server t n i m x y z) (let e : n + 1 - i ≡ suc (n + 1 - (i + 1)) = omega arith in e)
+
+    pub inside : 8 * i + 10 ≤ length t
+    inside = omega (arith, p.long)
+
+    pub fewer : n + 1 - (i + 1) < n + 1 - i
+    fewer = omega arith
 
     -- one slot on
     on : (u v w : Stand) → u.reached < 4294967296 → sound t ≡ left_tested server t n (suc i) more u v w → Passing server t n (i + 1) u v w

@@ -1,16 +1,23 @@
 -- Laws of Boolean tests and of lists of them, by cases on the tests. Assumes nothing.
 use Prim.Native.Nat.{ℕ, zero, suc}
 use mathlib.Core.Path.{◌≡◌, refl, sym, ap, ◌∙◌}
-use mathlib.Core.Bool.{Bool, true, false, ◌&&◌, and-true, and-false, and_assoc}
+use mathlib.Core.Bool.{Bool, true, false, not, ◌&&◌, and-true, and-false, and_assoc}
 use mathlib.Core.List.{List, [], ◌∷◌}
 use native.Mathlib.Omega.{arith}
 use lib.ListN.{get_or}
 use lib.Bits.{bit_or, or_add_and, and_le_l, and_le_r}
 use lib.Dec.{eqb}
-use borrow.Author.Tests.{eqb-true, eq-eqb}
+use borrow.Author.Tests.{eqb-true, eq-eqb, not-true, not-false}
 use Rattle.calendar.specs.Calendar.{all_of}
 use Rattle.laws.proofs.ListLaws.{cases, clash, both, and_both}
 use Rattle.word_checks.specs.Tested.{all_zero}
+
+-- what a call said of a test, and which way the test went
+pub passed : {a b : Bool} → a ≡ b → not a ≡ false → b ≡ true
+passed {a} e h = sym e ∙ not-false a h
+
+pub failed : {a b : Bool} → a ≡ b → not a ≡ true → b ≡ false
+failed {a} e h = sym e ∙ not-true a h
 
 -- a test that cannot have passed
 pub never : (a : Bool) → (a ≡ true → ⊥) → false ≡ a

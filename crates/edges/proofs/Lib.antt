@@ -1,0 +1,2 @@
+-- Signs has what is known of a number below zero.
+pub mod Signs
