@@ -60,10 +60,10 @@
  *   - The table, the list, the wall time and the words for answers do not overlap.
  *   - Nobody else reads or writes them during a call: if an interrupt makes calls on the same table, keep it out.
  *   - A party gives its own number: the library cannot know who calls.
- *   - There is stack: hc_ticks_left takes 32 bytes for each timer ahead of its own, 8.2 KB at most, and so do hc_macro_step and
- *     hc_macro_run for a wait, with up to 500 bytes more, and hc_recording_replay, up to 8.5 KB; for any other step
- *     hc_macro_step and hc_macro_run take up to 1.5 KB, hc_macro_check 1.1 KB, hc_plan some 800 bytes, the other calls
- *     some 300. The code is for x86-64, uses SSE registers and the red zone, and needs memset and memcpy; it allocates nothing and has no writable data.
+ *   - There is stack, however many timers wait: hc_macro_step and hc_macro_run take up to 1.2 KB, hc_macro_check 700 bytes,
+ *     hc_plan 500, hc_recording_replay 400, the other calls 250 at most; docs/KERNEL.md has each call's, without what memset and
+ *     memcpy take. The code is for x86-64, uses SSE registers and the red zone, and needs memset and memcpy; it allocates nothing
+ *     and has no writable data.
  */
 #ifndef HEATHCINDER_H
 #define HEATHCINDER_H
@@ -76,10 +76,10 @@ extern "C" {
 #endif
 
 /* The version of this interface, by semantic versioning: CHANGELOG.md says what each brought. */
-#define HC_VERSION "4.2.0"
+#define HC_VERSION "4.2.1"
 #define HC_VERSION_MAJOR 4u
 #define HC_VERSION_MINOR 2u
-#define HC_VERSION_PATCH 0u
+#define HC_VERSION_PATCH 1u
 
 /* Statuses. Those below 100 are RTEMS's numbers under RTEMS's names. */
 #define HC_SUCCESSFUL 0u       /* accepted */

@@ -8,7 +8,8 @@ bodies. So each must be refused at its own function, for another reason than tha
 again by itself, as all are under --alone. With --every those in must-fail are tried too: `rt ci` keeps no report on them.
 
 The tree must be proved by `rt all check`, whose libraries the checks here stand on (those of `rt ci` it keeps for itself). Edits are tried in
-copies of it, as many at a time as there are cores. What the prover says of an edit stays in target/edits/CRATE/EDIT.log. An edit that it does not refuse makes the run fail."""
+copies of it, as many at a time as there are cores and memory for. What the prover says of an edit stays in target/edits/CRATE/EDIT.log. An edit
+that it does not refuse makes the run fail, as does one that it refuses only since a name is not there."""
 import os
 import queue
 import re
@@ -26,7 +27,10 @@ CHECKS_AT_ONCE = 50  # checks of one crate that one worker takes
 CHECKS_TO_PREPARE = 10  # from so many on, the crate is checked as it is first, and each check goes on from there
 PARTS = "src", "specs", "proofs"
 # How the prover says that it refuses something only since it cites something that is refused.
-CITES_REFUSED = re.compile(r"that depends? on .* rejected")
+CITES_REFUSED = re.compile(r"that depends? on .*, which was (?:rejected|not admitted)")
+# How it says that it does not know a name, which shows nothing of what the edit does.
+UNKNOWN_NAME = re.compile(r"that can be named from here|has no field|is not in scope|has no `")
+MEMORY_OF_A_CHECK = 4 << 30  # bytes
 printing = threading.Lock()
 
 
@@ -112,6 +116,16 @@ class Edit:
             if needs and needs[1] in self.proofs:
                 kept.append(line)
         return kept
+
+
+def for_a_name(told):
+    """Whether these lines refuse an edit for names alone: an edited text that cannot be read, or a proof that cites what the edit took away."""
+    errors = [line for line in told if re.search(r"\.(antt|rt):\d+:\d+: error", line)]
+    if any(re.match(r"(?:\./)?(?:src|specs)/", line) and UNKNOWN_NAME.search(line) for line in errors):
+        return True
+    if any(re.match(r"fn \w+::\S+: no proof: .*`search` did not prove ", line) for line in told):
+        return False
+    return bool(errors) and all(UNKNOWN_NAME.search(line) or CITES_REFUSED.search(line) for line in errors)
 
 
 def groups(edits, alone):
@@ -200,6 +214,9 @@ class Worker:
                     say("%s: BAD EDIT: it did not reach the prover (exit %d)\n%s" % (name, status, "\n".join(why)))
             elif not refused or not told:
                 left.append(edit)
+            elif for_a_name(told):
+                self.failed.append(name)
+                say("%s: REFUSED FOR A NAME, which shows nothing: %s" % (name, next(filter(UNKNOWN_NAME.search, told))))
             else:
                 log = LOGS / crate / (edit.name + ".log")
                 log.parent.mkdir(parents=True, exist_ok=True)
@@ -254,7 +271,9 @@ def main():
                 Worker(Path(folder) / str(number), failed).work(todo)
             except Exception as error:
                 failed.append("worker %d: %s" % (number, error))
-        threads = [threading.Thread(target=start, args=(number,)) for number in range(min(os.cpu_count() or 1, todo.qsize()))]
+        room = os.sysconf("SC_PAGE_SIZE") * os.sysconf("SC_PHYS_PAGES") // MEMORY_OF_A_CHECK
+        workers = min(os.cpu_count() or 1, max(room, 1), todo.qsize())
+        threads = [threading.Thread(target=start, args=(number,)) for number in range(workers)]
         for thread in threads:
             thread.start()
         for thread in threads:

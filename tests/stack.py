@@ -28,7 +28,12 @@ JUMPING = {"server_check::last_queued", "soundness::is_sound", "hc_recording_rep
 COMPARING = {"hc_seconds_to_ticks", "hc_fire_after_seconds", "delay::seconds_to_ticks", "delayed::fire_after_delay"}
 ADDRESS = 8
 DEEP = 4096
-UNUSED = re.compile(r"v|cvt|(add|sub|mul|div|sqrt|min|max|cmp|u?comi|round)[sp][sd]$|(popcnt|lzcnt|tzcnt|ldmxcsr|stmxcsr|endbr64)$")
+UNUSED = re.compile(
+    r"v|cvt|(add|sub|mul|div|sqrt|min|max|cmp|u?comi|round)[sp][sd]$|(popcnt|lzcnt|tzcnt|ldmxcsr|stmxcsr|endbr64)$"
+    # of SSE3 to SSE4.2 and what came with them, which the first x86-64 has not
+    r"|(addsub|hadd|hsub|dp|blendv?)p[sd]$|(lddqu|movddup|movs[hl]dup|movntdqa|cmpxchg16b|[ls]ahf|crc32[bwlq]?)$"
+    r"|(pabs[bwd]|palignr|ph(add|sub)(d|s?w)|pmaddubsw|pmulhrsw|pshufb|psign[bwd]|pblend(vb|w)|pcmp(eqq|gtq|[ei]str[im]))$"
+    r"|((extract|insert)ps|p(extr|insr)[bdq]|phminposuw|mpsadbw|packusdw|pm(ax|in)(s[bd]|u[dw])|pmov[sz]x..|pmul(dq|ld)|ptest)$")
 
 
 def fail(why):

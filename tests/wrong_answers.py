@@ -4,7 +4,8 @@
     python3 tests/wrong_answers.py > docs/wrong-answers.md
 
 An edit's first line names the contract or the definition, a colon, and what is wrong. A public function that fewer than two
-edits name is an error. With --check nothing is written: the page must list these edits."""
+edits name is an error. With --check nothing is written: the page must list these edits, and each that tests/edits.py tries have a report
+(`rt ci` keeps none of those in must-fail, and counts them)."""
 import re
 import sys
 from pathlib import Path
@@ -14,7 +15,7 @@ PAGE = ROOT / "docs" / "wrong-answers.md"
 HEAD = """# Wrong answers
 
 Each row is an edit of the code or of a definition (`crates/CRATE/must-fail/EDIT.edit` or `crates/CRATE/edits/EDIT.edit`) that gives a wrong answer. The
-gate tries every one, and the prover refuses it: at the needs of a function's proof, or at the theorems of a file. What is refused only because it cites
+gate tries every one, and the prover refuses it: at the goals of a function, or at the theorems of a file. What is refused only because it cites
 something refused is left out. Every public function has two wrong answers or more; `model`, `demand`, `isolation` and `order` have no function, and
 their edits are of definitions.
 """
@@ -46,13 +47,18 @@ def public_functions(crate):
         yield from re.findall(r'^pub (?:extern "C" )?fn (\w+)', source.read_text(), re.M)
 
 
-def places(crate, edit):
-    """Where the prover refused an edit, in the order of its report."""
+def report(crate, edit):
+    """What the prover said of an edit."""
     log = ROOT / "target" / "edits" / crate / (edit + ".log")
     if not log.exists():
         fail("no report on %s/%s: run tests/edits.py --every first" % (crate, edit))
+    return log.read_text()
+
+
+def places(crate, edit):
+    """Where the prover refused an edit, in the order of its report."""
     found = {}
-    for line in log.read_text().splitlines():
+    for line in report(crate, edit).splitlines():
         error = re.search(r"/(?:proofs|specs)/([^: ]+)\.antt:\d+:\d+: error: `([^`]+)`: (.*)", line)
         if error:
             found.setdefault(re.sub("/(Answers|Invariants|Proof)$", "", error[1]), {})[error[2]] = None
@@ -88,6 +94,8 @@ def check():
     """The page has a row for every edit, and no other."""
     listed = set(re.findall(r"^(\|.*\| `\w+` \|) ", PAGE.read_text(), re.M))
     made = {row for crate in crates() for row, _ in rows(crate)}
+    for path in sorted((ROOT / "crates").glob("*/edits/*.edit")):
+        report(path.parent.parent.name, path.stem)
     for row in sorted(listed ^ made):
         fail("%s %s: %s" % (PAGE.relative_to(ROOT), "lacks" if row in made else "has, and there is none", row))
 
