@@ -125,7 +125,7 @@ def for_a_name(told):
         return True
     if any(re.match(r"fn \w+::\S+: no proof: .*`search` did not prove ", line) for line in told):
         return False
-    return bool(errors) and all(UNKNOWN_NAME.search(line) or CITES_REFUSED.search(line) for line in errors)
+    return any(map(UNKNOWN_NAME.search, errors)) and all(UNKNOWN_NAME.search(line) or CITES_REFUSED.search(line) for line in errors)
 
 
 def groups(edits, alone):

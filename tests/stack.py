@@ -30,7 +30,8 @@ ADDRESS = 8
 DEEP = 4096
 UNUSED = re.compile(
     r"v|cvt|(add|sub|mul|div|sqrt|min|max|cmp|u?comi|round)[sp][sd]$|(popcnt|lzcnt|tzcnt|ldmxcsr|stmxcsr|endbr64)$"
-    # of SSE3 to SSE4.2 and what came with them, which the first x86-64 has not
+    # of SSE3 to SSE4.2 and what came with them and after, which the first x86-64 has not
+    r"|(fisttp\w*|movbe|pclmul\w*|aes\w+|sha(1|256)\w+|andn|bextr|bls(i|r|msk)|bzhi|mulx|pdep|pext|rorx|s[ahl][lr]x|ad[co]x)$"
     r"|(addsub|hadd|hsub|dp|blendv?)p[sd]$|(lddqu|movddup|movs[hl]dup|movntdqa|cmpxchg16b|[ls]ahf|crc32[bwlq]?)$"
     r"|(pabs[bwd]|palignr|ph(add|sub)(d|s?w)|pmaddubsw|pmulhrsw|pshufb|psign[bwd]|pblend(vb|w)|pcmp(eqq|gtq|[ei]str[im]))$"
     r"|((extract|insert)ps|p(extr|insr)[bdq]|phminposuw|mpsadbw|packusdw|pm(ax|in)(s[bd]|u[dw])|pmov[sz]x..|pmul(dq|ld)|ptest)$")
