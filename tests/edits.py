@@ -43,17 +43,22 @@ class Code:
     """The functions of a crate: where the body of each stands, and whose proof is one with another's."""
 
     def __init__(self, crate):
-        self.bodies = {}  # path below the crate -> [(name, begin, end)]
+        self.bodies = {}  # path below the crate -> [(proof's folder, begin, end)]
         home = ROOT / "crates" / crate
         for path in sorted((home / "src").rglob("*.rt")):
             text = path.read_text()
             found = []
-            for each in re.finditer(r"^[^/\n]*\bfn (\w+)", text, re.M):
+            impls = [(each[1], each.start(), text.find("\n}\n", each.end())) for each in re.finditer(r"^impl(?:<[^>]*>)? ([^{\n]+) \{$", text, re.M)]
+            for each in re.finditer(r"^( *)[^/\n]*\bfn (\w+)", text, re.M):
                 begin = text.find("{\n", each.end())
-                end = text.find("\n}\n", begin)
+                end = text.find("\n%s}\n" % each[1], begin)
                 if begin < 0 or end < 0 or re.search(r"^[^/\n]*\bfn \w+", text[each.end():end], re.M):
-                    sys.exit("edits: the body of %s in %s does not end by a line }" % (each[1], path.relative_to(ROOT)))
-                found.append((each[1], begin, end))
+                    sys.exit("edits: the body of %s in %s does not end by a line }" % (each[2], path.relative_to(ROOT)))
+                of = next((head for head, first, last in impls if first < each.start() < last), None)
+                if of is None:
+                    found.append((each[2], begin, end))
+                elif " for " not in of:  # a method; a trait's is tried by itself
+                    found.append(("%s/%s" % (re.match(r"\w+", of)[0], each[2]), begin, end))
             self.bodies[str(path.relative_to(home))] = found
         # a function that calls itself has its proof in a folder +f, and functions that call one another have one, in a folder +cycle
         self.proofs = {folder.name[1:]: folder.name for folder in (home / "proofs").glob("+*")}
@@ -109,11 +114,11 @@ class Edit:
         """The lines of a report in which the prover refuses the functions that are edited, for another reason than that what they cite is refused."""
         kept = []
         for line in report.splitlines():
-            error = re.search(r"/proofs/([^/: ]+)/[^: ]*:\d+:\d+: error: (.*)", line)
-            if error and error[1] in self.proofs and not CITES_REFUSED.search(error[2]):
+            error = re.search(r"/proofs/([^: ]+):\d+:\d+: error: (.*)", line)
+            if error and any(error[1].startswith(proof + "/") for proof in self.proofs) and not CITES_REFUSED.search(error[2]):
                 kept.append(line)
             needs = re.match(r"fn \w+::(\S+): no proof: .*`search` did not prove ", line)
-            if needs and needs[1] in self.proofs:
+            if needs and needs[1].replace("::", "/") in self.proofs:
                 kept.append(line)
         return kept
 

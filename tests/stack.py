@@ -23,7 +23,8 @@ BEGIN, END = "<!-- stack: made by tests/stack.py -->\n", "<!-- /stack -->\n"
 # Nine frames for a macro, whose blocks are at most eight repeats deep.
 RECURSIVE = {"macro_check::check_block": 9}
 # Jumps by a table of constants, without 'notrack': where indirect branch tracking is on, the processor stops at them.
-JUMPING = {"server_check::last_queued", "soundness::is_sound", "hc_recording_replay", "hc_fire_after_seconds"}
+JUMPING = {"server_check::last_queued", "soundness::is_sound", "links::Table::start", "hc_cancel", "hc_delete", "hc_reset", "hc_serve",
+           "macros::step_value", "hc_recording_replay", "hc_fire_after_seconds"}
 # The calls that take a number of seconds, and tell by a comparison with itself whether it is one.
 COMPARING = {"hc_seconds_to_ticks", "hc_fire_after_seconds", "delay::seconds_to_ticks", "delayed::fire_after_delay"}
 ADDRESS = 8
@@ -54,10 +55,10 @@ class Function:
         self.frame = self.below = 0
         self.calls = {}
         self.sse = set()
-        frames, switch = self.follow({}, 0, 0), None
-        for place, (at, rest, _) in enumerate(code):
-            if at == "jmp" and rest.startswith("*"):
-                switch = frames[place]
+        frames = self.follow({}, 0, 0)
+        jumps = [place for place, (at, rest, _) in enumerate(code) if at == "jmp" and rest.startswith("*")]
+        # one of them may lead to another
+        switch = next((frames[place] for place in jumps if place in frames), None)
         self.jumps = switch is not None
         # what a jump by a table leads to has no jump of its own: it follows one that always jumps, or a return
         for place in range(1, len(code)):
@@ -65,6 +66,9 @@ class Function:
                 if switch is None:
                     fail("%s: nothing leads to %s %s" % (name, code[place][0], code[place][1]))
                 self.follow(frames, place, switch)
+        for place in jumps:
+            if frames[place] != switch:
+                fail("%s: jumps from two frames" % name)
 
     def follow(self, frames, place, frame):
         """The frame before each instruction that can be reached from this one."""

@@ -17,8 +17,8 @@ HEAD = """# Wrong answers
 
 Each row is an edit of the code or of a definition (`crates/CRATE/must-fail/EDIT.edit` or `crates/CRATE/edits/EDIT.edit`) that gives a wrong answer. The
 gate tries every one, and the prover refuses it: at the goals of a function, or at the theorems of a file. What is refused only because it cites
-something refused is left out. Every public function has two wrong answers or more; `model`, `demand`, `isolation` and `order` have no function, and
-their edits are of definitions.
+something refused is left out. Every public function has two wrong answers or more; `demand`, `isolation` and `order` have no function, and
+their edits are of definitions, as are most of those of `model`.
 """
 
 
@@ -45,7 +45,7 @@ def edits(crate):
 
 def public_functions(crate):
     for source in sorted((ROOT / "crates" / crate / "src").rglob("*.rt")):
-        yield from re.findall(r'^pub (?:extern "C" )?fn (\w+)', source.read_text(), re.M)
+        yield from re.findall(r'^ *pub (?:extern "C" )?fn (\w+)', source.read_text(), re.M)
 
 
 def report(crate, edit):

@@ -14,8 +14,10 @@ use Rattle.model.specs.Outcome.{outcome_of, outcome}
 use Rattle.laws.proofs.ListLaws.{clash}
 use Rattle.laws.proofs.AcceptedCalls.{no_rule}
 use Rattle.laws.proofs.OutcomeLaws.{status-is, refused-by}
-use Rattle.answers.specs.declared.Answer.{Answer}
-use Rattle.answers.specs.declared.Answer.TheVariants.{Done, Refused}
+use Rattle.std.specs.declared.result.Result.{Result}
+use Rattle.std.specs.declared.result.Result.TheVariants.{Ok, Err}
+use Rattle.std.specs.Prelude.{IsErrAnd}
+use Rattle.std.proofs.lemmas.Result.{err_from_is_err_and}
 use Rattle.answers.specs.Answers.{status_of, answer_of}
 use Rattle.answers.specs.Openings.{Opens}
 use Rattle.answers.proofs.Replies.{rules}
@@ -29,20 +31,20 @@ still-first [] more k h e = clash (sym e)
 still-first (r ∷ rs) more zero h e = rw e
 still-first (r ∷ rs) more (suc k) h e = rw h.0 (still-first rs more k h.1 e)
 
-abbrev is_done : Answer → ℕ
-is_done (Done n) = 1
-is_done (Refused s) = 0
+abbrev is_done : Result ℕ Status → ℕ
+is_done (Ok n) = 1
+is_done (Err s) = 0
 
 module _ {first : List Refusal} {P : ℕ → Type 0} where
-  pub goes_on : {n : ℕ} → P n → Opens first P (Done n)
+  pub goes_on : {n : ℕ} → P n → Opens first P (Ok n)
   goes_on p = record {
-    holds = λ m e. subst P (ap (λ (a : Answer). get_or (answer_of a) 0 0) e) p;
+    holds = λ m e. subst P (ap (λ (a : Result ℕ Status). get_or (answer_of a) 0 0) e) p;
     stopped = λ s e. let z : ◌≡◌ {A = ℕ} 1 0 = ap is_done e in absurd (omega arith);
   }
 
   -- rule k applies, and none before it
   pub stops : (s : Status) (k : ℕ) → All (λ x. x.given ≡ false) (take k first) → (get_or first k no_rule).given ≡ true
-      → (get_or first k no_rule).status ≡ s → Opens first P (Refused s)
+      → (get_or first k no_rule).status ≡ s → Opens first P (Err s)
   stops s k before now number = record {
     holds = λ m e. let z : ◌≡◌ {A = ℕ} 0 1 = ap is_done e in absurd (omega arith);
     stopped = λ r e more. still-first first more k before now ∙ ap number_of number ∙ ap status_of e;
@@ -51,7 +53,7 @@ module _ {first : List Refusal} {P : ℕ → Type 0} where
 -- ---- the call's refusal
 
 module _ (t : List ℕ) (c : Call) where
-  pub refuses-as : {first : List Refusal} {P : ℕ → Type 0} {r : Answer} {s : Status} → Opens first P r → r ≡ Refused s
+  pub refuses-as : {first : List Refusal} {P : ℕ → Type 0} {r : Result ℕ Status} {s : Status} → Opens first P r → r ≡ Err s
       → (more : List Refusal) → rules t c ≡ first ++ more → ◌≡◌ {A = List ℕ} (0 ∷ []) (replicate (answer_count c) 0)
       → outcome_of (status_of r) (answer_of r) t (lent_to c) ≡ outcome t c
   refuses-as {s = s} o e more is zeros =
@@ -59,8 +61,17 @@ module _ (t : List ℕ) (c : Call) where
       ∙ (λ j. outcome_of (number_of s) (zeros j) t (lent_to c))
       ∙ sym (refused-by t c s (status-is t c ∙ ap first_of is ∙ o.stopped s e more))
 
+  -- where the call hands the opening's refusal on by `?`
+  pub hands-on : {first : List Refusal} {P : ℕ → Type 0} {s : Status} (r : Result ℕ Status) → IsErrAnd r (λ y. y ≡ s) → Opens first P (Err s)
+      → (more : List Refusal) → rules t c ≡ first ++ more → ◌≡◌ {A = List ℕ} (0 ∷ []) (replicate (answer_count c) 0)
+      → outcome_of (status_of r) (answer_of r) t (lent_to c) ≡ outcome t c
+  hands-on r handed o more is zeros =
+      let p = err_from_is_err_and r handed in
+      let same = p.1 ∙ ap Err p.2 in
+      refuses-as (subst (Opens _ _) (sym same) o) same more is zeros
+
   -- the same of a call with more numbers in its answer
-  pub refuses-with : {first : List Refusal} {P : ℕ → Type 0} {r : Answer} {s : Status} → Opens first P r → r ≡ Refused s
+  pub refuses-with : {first : List Refusal} {P : ℕ → Type 0} {r : Result ℕ Status} {s : Status} → Opens first P r → r ≡ Err s
       → (more : List Refusal) → rules t c ≡ first ++ more → (others : List ℕ) → ◌≡◌ {A = List ℕ} (0 ∷ others) (replicate (answer_count c) 0)
       → outcome_of (status_of r) (answer_of r ++ others) t (lent_to c) ≡ outcome t c
   refuses-with {s = s} o e more is others zeros =

@@ -2,75 +2,48 @@
 #![tactic(auto)]
 
 ghost use Rattle.std.specs.Prelude.{◌≡◌, [], ◌∷◌};
-ghost use Rattle.answers.specs.Answers.{status_of, answer_of, reading_status, reading_answer};
+ghost use Rattle.answers.specs.Answers.{status_of, answer_of, reading_answer};
 
 use calendar::WallTime;
-use model::Status;
+use model::{SUCCESSFUL, Status};
 
-// What a call answers: done, with the answer's number, or refused.
-#[derive(Clone, Copy)]
-pub enum Answer {
-    Done(u32),
-    Refused(Status),
-}
-
-// What get clock answers: the date with the ticks into its second, or refused.
-#[derive(Clone, Copy)]
-pub enum Reading {
-    Time(WallTime),
-    Unread(Status),
-}
-
-// What set clock answers: how many timers fired, or refused; and how far the clock moved, in ticks, 0 where it is refused.
-#[derive(Clone, Copy)]
+// What set clock answers where it is not refused: how many timers fired, and how far the clock moved, in ticks.
+#[derive(Clone, Copy, Debug, PartialEq, Eq)]
 pub struct Setting {
-    pub answer: Answer,
+    pub fired: u32,
     pub moved: i64,
 }
 
-// What leap answers: how many timers fired, or refused; and how many ticks were done, 0 where it is refused.
-#[derive(Clone, Copy)]
+// What leap answers where it is not refused: how many timers fired, and how many ticks were done.
+#[derive(Clone, Copy, Debug, PartialEq, Eq)]
 pub struct Progress {
-    pub answer: Answer,
+    pub fired: u32,
     pub done: u32,
 }
 
-// The status of an answer, as a number.
-pub fn status_of(answer: Answer) -> u32
+// The status of an answer of any kind, as a number.
+pub fn status_of<T: Drop>(answer: Result<T, Status>) -> u32
     ensures { result ≡ status_of answer }
 {
     match answer {
-        Answer::Done(_) => status::SUCCESSFUL,
-        Answer::Refused(refusal) => status::number_of(refusal),
+        Ok(_) => SUCCESSFUL,
+        Err(refusal) => refusal.into(),
     }
 }
 
 // The number of an answer.
-pub fn number_in(answer: Answer) -> u32
+pub fn number_in(answer: Result<u32, Status>) -> u32
     ensures { result ∷ [] ≡ answer_of answer }
 {
-    match answer {
-        Answer::Done(number) => number,
-        Answer::Refused(_) => 0,
-    }
-}
-
-// The status of get clock, as a number.
-pub fn reading_status(reading: Reading) -> u32
-    ensures { result ≡ reading_status reading }
-{
-    match reading {
-        Reading::Time(_) => status::SUCCESSFUL,
-        Reading::Unread(refusal) => status::number_of(refusal),
-    }
+    answer.unwrap_or(0)
 }
 
 // The seven numbers of get clock.
-pub fn reading_numbers(reading: Reading) -> [u32; 7]
+pub fn reading_numbers(reading: Result<WallTime, Status>) -> [u32; 7]
     ensures { result ≡ reading_answer reading }
 {
     match reading {
-        Reading::Time(w) => [w.year, w.month, w.day, w.hour, w.minute, w.second, w.ticks],
-        Reading::Unread(_) => [0; 7],
+        Ok(w) => [w.year, w.month, w.day, w.hour, w.minute, w.second, w.ticks],
+        Err(_) => [0; 7],
     }
 }

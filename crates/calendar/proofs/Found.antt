@@ -69,3 +69,5 @@ pub same-wall : {y y' m m' d d' h h' n n' s s' : ℕ} → y ≡ y' → m ≡ m' 
     ◌≡◌ {A = WallTime} (record { year = y; month = m; day = d; hour = h; minute = n; second = s; ticks = 0 })
     (record { year = y'; month = m'; day = d'; hour = h'; minute = n'; second = s'; ticks = 0 })
 same-wall p q r u v x = λ i. record { year = p i; month = q i; day = r i; hour = u i; minute = v i; second = x i; ticks = 0 }
+
+pub ruleset within = (days-within)

@@ -65,3 +65,5 @@ not-before year day h = (short, go (ltb (day / 32) 2) refl)
 
 pub not_after : (year day : ℕ) → day / 32 + 1 + 1 ≤ 12 → day < before (months_of year) (day / 32 + 1 + 1)
 not_after year day h = omega (arith, starts-late year (day / 32 + 1 + 1) (omega arith) h)
+
+pub ruleset starts = (starts-early, starts-late)

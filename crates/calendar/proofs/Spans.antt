@@ -57,3 +57,5 @@ span_of-lies (x ∷ xs) n h = go (ltb n x) refl (λ p. span_of-lies xs (n - x) (
     go : (b : Bool) → ltb n x ≡ b → (x ≤ n → Lies xs (n - x) (span_of xs (n - x))) → Lies (x ∷ xs) n (cond b 0 (suc (span_of xs (n - x))))
     go true e later = omega (arith, ltb-true n x e)
     go false e later = omega (arith, ltb-false n x e, later (ltb-false n x e))
+
+pub ruleset spans = (before-next, before-within)

@@ -6,14 +6,11 @@ use mathlib.Core.Path.{◌≡◌, refl, ap, sym, ◌∙◌}
 use Prim.Native.Nat.{ℕ, zero, suc, ◌+◌, ◌-◌, ◌*◌, ◌%◌, ◌≤◌, ◌<◌}
 use native.Mathlib.Nat.{add-sub_cancel, add-sub_cancel_left}
 use native.Mathlib.Omega.{arith}
+use Rattle.std.specs.Prelude.{Option, Some, None}
 use lib.Dec.{leb, ltb}
 use lib.ListN.{get_or}
 use borrow.Author.Tests.{ltb-true, ltb-false, leb-true, leb-false}
 use Rattle.calendar.specs.declared.WallTime.{WallTime}
-use Rattle.calendar.specs.declared.Instant.{Instant}
-use Rattle.calendar.specs.declared.Instant.TheVariants.{Second, NotValid}
-use Rattle.calendar.specs.declared.Date.{Date}
-use Rattle.calendar.specs.declared.Date.TheVariants.{On, PastTheLast}
 use Rattle.calendar.specs.Calendar.{leap_flag, month_lengths, months_of, month_length, valid, before, seconds_of, last_second, date_of, instant_of, date_answer}
 use Rattle.calendar.proofs.Years.{leap-is, before-years}
 use Rattle.calendar.proofs.Validity.{facts-valid, valid-facts}
@@ -78,17 +75,17 @@ pub record IsSecond (w : WallTime) (s : ℕ) : Type 0 where
   pub is : s ≡ seconds_of w
   pub in-range : s ≤ last_second
 
-pub second-answer : {i : Instant} (w : WallTime) (s : ℕ) → i ≡ instant_of w → i ≡ Second s → IsSecond w s
+pub second-answer : {i : Option ℕ} (w : WallTime) (s : ℕ) → i ≡ instant_of w → i ≡ Some s → IsSecond w s
 second-answer w s p q = go (valid w) refl (sym q ∙ p)
   where
-    go : (b : Bool) → valid w ≡ b → Second s ≡ cond b (Second (seconds_of w)) NotValid → IsSecond w s
+    go : (b : Bool) → valid w ≡ b → Some s ≡ cond b (Some (seconds_of w)) None → IsSecond w s
     go true v e = let same : s ≡ seconds_of w = cc in record { is-valid = v; is = same; in-range = omega (arith, seconds-in-range w v) }
     go false v e = let clash : ◌≡◌ {A = ℕ} 0 1 = cc in absurd (omega arith)
 
-pub not-valid-answer : {i : Instant} (w : WallTime) → i ≡ instant_of w → i ≡ NotValid → valid w ≡ false
+pub not-valid-answer : {i : Option ℕ} (w : WallTime) → i ≡ instant_of w → i ≡ None → valid w ≡ false
 not-valid-answer w p q = go (valid w) (sym q ∙ p)
   where
-    go : (b : Bool) → NotValid ≡ cond b (Second (seconds_of w)) NotValid → b ≡ false
+    go : (b : Bool) → None ≡ cond b (Some (seconds_of w)) None → b ≡ false
     go true e = cc
     go false e = refl
 
@@ -96,17 +93,17 @@ pub record IsOn (s : ℕ) (w : WallTime) : Type 0 where
   pub in-range : s ≤ last_second
   pub is : w ≡ date_of s
 
-pub on-answer : {d : Date} (s : ℕ) (w : WallTime) → d ≡ date_answer s → d ≡ On w → IsOn s w
+pub on-answer : {d : Option WallTime} (s : ℕ) (w : WallTime) → d ≡ date_answer s → d ≡ Some w → IsOn s w
 on-answer s w p q = go (leb s last_second) refl (sym q ∙ p)
   where
-    go : (b : Bool) → leb s last_second ≡ b → On w ≡ cond b (On (date_of s)) PastTheLast → IsOn s w
+    go : (b : Bool) → leb s last_second ≡ b → Some w ≡ cond b (Some (date_of s)) None → IsOn s w
     go true h e = record { in-range = leb-true _ _ h; is = cc }
     go false h e = let clash : ◌≡◌ {A = ℕ} 0 1 = cc in absurd (omega arith)
 
-pub past-answer : {d : Date} (s : ℕ) → d ≡ date_answer s → d ≡ PastTheLast → last_second < s
+pub past-answer : {d : Option WallTime} (s : ℕ) → d ≡ date_answer s → d ≡ None → last_second < s
 past-answer s p q = go (leb s last_second) refl (sym q ∙ p)
   where
-    go : (b : Bool) → leb s last_second ≡ b → PastTheLast ≡ cond b (On (date_of s)) PastTheLast → last_second < s
+    go : (b : Bool) → leb s last_second ≡ b → None ≡ cond b (Some (date_of s)) None → last_second < s
     go true h e = let clash : ◌≡◌ {A = ℕ} 0 1 = cc in omega arith
     go false h e = leb-false _ _ h
 

@@ -64,3 +64,5 @@ not_valid w n = go (valid w) refl
     go : (b : Bool) → valid w ≡ b → false ≡ b
     go true e = absurd (n (valid-facts w e))
     go false e = refl
+
+pub ruleset facts = (valid-facts)

@@ -95,3 +95,9 @@ in_four g y hg hy =
       long = omega (arith, first, year-length (1988 + y), year-length (1988 + (g * 4 + y)), leap-is (1988 + y), leap-is (1988 + (g * 4 + y)));
       passed = omega arith;
     }
+
+pub ruleset short = (year-short, twelve)
+
+pub ruleset starts = (before-years)
+
+pub ruleset leap = (leap-is)

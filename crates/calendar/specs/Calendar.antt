@@ -1,12 +1,8 @@
 -- The civil calendar of document 01, section Dates, sentence by sentence, but that the months' rows stand before the test that asks for them.
 -- This file is what a reader must believe of dates; Cases.antt has document 01's worked ones.
 -- Assumes nothing.
-use Rattle.std.specs.Prelude.{Bool, true, cond, ◌&&◌, List, [], ◌∷◌, ℕ, zero, suc, ◌+◌, ◌-◌, ◌*◌, ◌/◌, ◌%◌, leb, ltb, eqb, get_or, take}
+use Rattle.std.specs.Prelude.{Bool, true, cond, ◌&&◌, List, [], ◌∷◌, ℕ, zero, suc, ◌+◌, ◌-◌, ◌*◌, ◌/◌, ◌%◌, leb, ltb, eqb, get_or, take, Option, Some, None}
 use Rattle.calendar.specs.declared.WallTime.{WallTime}
-use Rattle.calendar.specs.declared.Instant.{Instant}
-use Rattle.calendar.specs.declared.Instant.TheVariants.{Second, NotValid}
-use Rattle.calendar.specs.declared.Date.{Date}
-use Rattle.calendar.specs.declared.Date.TheVariants.{On, PastTheLast}
 
 -- "Month lengths come from two rows of twelve, one for common and one for leap years"
 abbrev pub month_lengths : List (List ℕ)
@@ -101,9 +97,9 @@ unfoldable pub date_of : ℕ → WallTime
 date_of s = date_at (s / 86400) (s % 86400)
 
 -- the answer for a wall time: its seconds, where it is valid
-abbrev pub instant_of : WallTime → Instant
-instant_of w = cond (valid w) (Second (seconds_of w)) NotValid
+abbrev pub instant_of : WallTime → Option ℕ
+instant_of w = cond (valid w) (Some (seconds_of w)) None
 
 -- the answer for a second: its date, where it is in the range
-abbrev pub date_answer : ℕ → Date
-date_answer s = cond (leb s last_second) (On (date_of s)) PastTheLast
+abbrev pub date_answer : ℕ → Option WallTime
+date_answer s = cond (leb s last_second) (Some (date_of s)) None

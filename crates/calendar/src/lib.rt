@@ -5,7 +5,7 @@ ghost use Rattle.std.specs.Prelude.{◌≡◌, true, ◌+◌, ◌-◌, ◌*◌, 
 ghost use Rattle.calendar.specs.Calendar.{leap_flag, months_of, valid, total, before, years, days_of, seconds_of, last_second, date_of, instant_of, date_answer};
 
 // The ticks into the second are no matter of the calendar: set clock alone takes them; `from_seconds` gives zero.
-#[derive(Clone, Copy)]
+#[derive(Clone, Copy, Debug, PartialEq, Eq)]
 pub struct WallTime {
     pub year: u32,
     pub month: u32,
@@ -14,20 +14,6 @@ pub struct WallTime {
     pub minute: u32,
     pub second: u32,
     pub ticks: u32,
-}
-
-// The seconds of a wall time, where it is valid.
-#[derive(Clone, Copy)]
-pub enum Instant {
-    Second(u32),
-    NotValid,
-}
-
-// The wall time of a second, where it is not past the last.
-#[derive(Clone, Copy)]
-pub enum Date {
-    On(WallTime),
-    PastTheLast,
 }
 
 // The years of the calendar.
@@ -40,7 +26,7 @@ pub const LAST_SECOND: u32 = 3534451199;
 
 const MONTHS: u32 = 12;
 
-// The months' lengths, January first: of a common year, and of a leap year.
+// The months' lengths, January first: of a common year, and of a leap year. (Two rows of twelve, as document 01 has them.)
 const MONTH_LENGTHS: [[u8; 12]; 2] = [
     [31, 28, 31, 30, 31, 30, 31, 31, 30, 31, 30, 31],
     [31, 29, 31, 30, 31, 30, 31, 31, 30, 31, 30, 31],
@@ -91,7 +77,8 @@ const LAST_MINUTE: u32 = 59;
 
 const LAST_OF_MINUTE: u32 = 59;
 
-// The row of a year's months in `MONTH_LENGTHS`.
+// The row of a year's months in `MONTH_LENGTHS`. (Here, in `month_length` and in `month_start` a conversion is a cast: `from` is a method, and
+// `called` of proofs/Turns.antt counts a call of a method as a loop.)
 fn leap_flag(year: u32) -> usize
     ensures { result ≡ leap_flag year }
 {
@@ -99,6 +86,7 @@ fn leap_flag(year: u32) -> usize
 }
 
 // The length of a month of a year, January being month 0.
+#[tactic(auto, unfolding(crate::specs::Calendar::months_of))]
 fn month_length(year: u32, month: u32) -> u32
     requires { month < 12 }
     ensures { result ≡ get_or (months_of year) month 0 }
@@ -108,41 +96,21 @@ fn month_length(year: u32, month: u32) -> u32
 }
 
 // Whether a wall time is a date and a time of the calendar.
+#[tactic(auto, unfolding(crate::specs::Calendar::valid))]
 pub fn is_valid(w: WallTime) -> bool
     ensures { result ≡ valid w }
 {
-    if w.year < FIRST_YEAR {
-        return false;
-    }
-    if LAST_YEAR < w.year {
-        return false;
-    }
-    if w.month < 1 {
-        return false;
-    }
-    if MONTHS < w.month {
-        return false;
-    }
-    if w.day < 1 {
-        return false;
-    }
-    let longest = month_length(w.year, w.month - 1);
-    if longest < w.day {
-        return false;
-    }
-    if LAST_HOUR < w.hour {
-        return false;
-    }
-    if LAST_MINUTE < w.minute {
-        return false;
-    }
-    if LAST_OF_MINUTE < w.second {
-        return false;
-    }
-    true
+    (FIRST_YEAR..=LAST_YEAR).contains(&w.year)
+        && (1..=MONTHS).contains(&w.month)
+        && 1 <= w.day
+        && w.day <= month_length(w.year, w.month - 1)
+        && w.hour <= LAST_HOUR
+        && w.minute <= LAST_MINUTE
+        && w.second <= LAST_OF_MINUTE
 }
 
 // The days before a year, 1988 being year 0: those of a common year for each, and one for each leap year.
+#[tactic(auto, using(crate::proofs::Years::starts))]
 fn days_before_year(year: u32) -> u32
     requires { year ≤ 112 }
     ensures { result ≡ before years year }
@@ -152,20 +120,20 @@ fn days_before_year(year: u32) -> u32
 }
 
 // The days of a year before one of its months, January being month 0.
+#[tactic(auto, using(crate::proofs::Spans::spans, crate::proofs::Years::short))]
 fn days_before_month(year: u32, month: u32) -> u32
     requires { month ≤ 12 }
     ensures { result ≡ before (months_of year) month }
 {
     let mut days = 0;
-    let mut m = 0;
-    while m < month {
+    for m in 0..month {
         days += month_length(year, m);
-        m += 1;
     }
     days
 }
 
 // The days from 1988-01-01 to a valid wall time's day.
+#[tactic(auto, using(crate::proofs::Validity::facts, crate::proofs::Found::within))]
 fn day_number(w: WallTime) -> u32
     requires { valid w ≡ true }
     ensures { result ≡ days_of w }
@@ -176,6 +144,7 @@ fn day_number(w: WallTime) -> u32
 }
 
 // The seconds from 1988-01-01 00:00:00 to a valid wall time.
+#[tactic(auto, using(crate::proofs::Validity::facts, crate::proofs::Found::within), unfolding(crate::specs::Calendar::seconds_of))]
 fn seconds_if_valid(w: WallTime) -> u32
     requires { valid w ≡ true }
     ensures { result ≡ seconds_of w }
@@ -184,31 +153,28 @@ fn seconds_if_valid(w: WallTime) -> u32
     midnight + w.hour * HOUR + w.minute * MINUTE + w.second
 }
 
-// The seconds from 1988-01-01 00:00:00 to a wall time; `NotValid` for one that is not valid.
-pub fn to_seconds(w: WallTime) -> Instant
+// The seconds from 1988-01-01 00:00:00 to a wall time; `None` for one that is not valid.
+pub fn to_seconds(w: WallTime) -> Option<u32>
     ensures { result ≡ instant_of w }
 {
-    if is_valid(w) {
-        Instant::Second(seconds_if_valid(w))
-    } else {
-        Instant::NotValid
-    }
+    is_valid(w).then(|| seconds_if_valid(w))
 }
 
 // A year of four and a day of it, both counted from 0.
-#[derive(Clone, Copy)]
+#[derive(Clone, Copy, Debug, PartialEq, Eq)]
 struct YearDay {
     year: u32,
     day: u32,
 }
 
 // The year and the day in it of a day of four years, the first of which is leap, all counted from 0.
+#[tactic(auto, unfolding(crate::specs::Calendar::years))]
 fn year_day(day: u32) -> YearDay
     requires { day < 1461 }
     ensures { (result.year < 4) × (day ≡ before years result.year + result.day) × (result.day < get_or years result.year 0) }
 {
     if day < SECOND_YEAR {
-        return YearDay { year: 0, day: day };
+        return YearDay { year: 0, day };
     }
     if day < THIRD_YEAR {
         return YearDay {
@@ -229,6 +195,7 @@ fn year_day(day: u32) -> YearDay
 }
 
 // The days of a year before one of its months, January being month 0: if February had 30 days, months would begin along a straight line.
+#[tactic(auto, using(crate::proofs::Months::starts, crate::proofs::Years::leap))]
 fn month_start(year: u32, month: u32) -> u32
     requires { month ≤ 12 }
     ensures { result ≡ before (months_of year) month }
@@ -242,14 +209,15 @@ fn month_start(year: u32, month: u32) -> u32
 }
 
 // A day of a month, both counted from 0.
-#[derive(Clone, Copy)]
+#[derive(Clone, Copy, Debug, PartialEq, Eq)]
 struct MonthDay {
     month: u32,
     day: u32,
 }
 
 // The month and the day in it of a day of a year, all counted from 0. No month has 32 days, so the month is not before the day divided by 32,
-// and at most one after it: the loop over the months' lengths turns once or not at all.
+// and at most one after it: the loop over the months' lengths turns once or not at all. (No `for`: `turns` beside its answers, for
+// `at-most-16-turns`, is of this loop.)
 fn month_day(year: u32, day: u32) -> MonthDay
     requires { day < total (months_of year) }
     ensures { (result.month < 12) × (result.day < get_or (months_of year) result.month 0) × (day ≡ before (months_of year) result.month + result.day) }
@@ -260,10 +228,7 @@ fn month_day(year: u32, day: u32) -> MonthDay
     loop {
         let length = month_length(year, month);
         if left < length {
-            return MonthDay {
-                month: month,
-                day: left,
-            };
+            return MonthDay { month, day: left };
         }
         left -= length;
         month += 1;
@@ -285,8 +250,8 @@ fn date_in_range(s: u32) -> WallTime
     let date = of_month.day + 1;
     let time = second % DAY;
     WallTime {
-        year: year,
-        month: month,
+        year,
+        month,
         day: date,
         hour: time / HOUR,
         minute: time % HOUR / MINUTE,
@@ -295,12 +260,13 @@ fn date_in_range(s: u32) -> WallTime
     }
 }
 
-// The wall time so many seconds after 1988-01-01 00:00:00; `PastTheLast` after 2099-12-31 23:59:59.
-pub fn from_seconds(s: u32) -> Date
+// The wall time so many seconds after 1988-01-01 00:00:00; `None` after 2099-12-31 23:59:59. (No `then`, as in `to_seconds`: `turns_of` of
+// proofs/Turns.antt would count its call as a loop.)
+pub fn from_seconds(s: u32) -> Option<WallTime>
     ensures { result ≡ date_answer s }
 {
     if LAST_SECOND < s {
-        return Date::PastTheLast;
+        return None;
     }
-    Date::On(date_in_range(s))
+    Some(date_in_range(s))
 }

@@ -70,20 +70,29 @@ fn put_links(t: &mut [u32], i: u32, w: u32, n: u32, p: u32)
     put(t, i, PREVIOUS, p);
 }
 
+// The wait of slot n, if there is one, after a change.
+#[inline(always)]
+fn wait_changed<F: FnOnce(u32) -> u32>(t: &[u32], n: u32, change: F) -> u32
+    requires slot { 8 * n + 10 ≤ length t.now }
+    requires callable { 0 < n → F.pre change (wait_of t.now n) }
+    ensures none { n ≡ 0 → result ≡ 0 }
+    ensures changed { 0 < n → F.post change (wait_of t.now n) result }
+{
+    if n == 0 {
+        return 0;
+    }
+    change(get(t, n, WAIT))
+}
+
 // The wait of slot n, if there is one, after the slot before it, of wait w, left the chain.
 fn wait_without(t: &[u32], chain: Chain, n: u32, w: u32) -> u32
     requires { (8 * n + 10 ≤ length t.now) × (wait_without chain t.now n w < 4294967296) }
     ensures { result ≡ wait_without chain t.now n w }
 {
-    if n == 0 {
-        return 0;
-    }
-    let v = get(t, n, WAIT);
-    match chain {
+    wait_changed(t, n, |v| match chain {
         Chain::ByTicks => v + w,
-        Chain::ByDate => v,
-        Chain::Queue => v,
-    }
+        Chain::ByDate | Chain::Queue => v,
+    })
 }
 
 // The wait of slot n, if there is one, after one of wait w came in front of it.
@@ -91,15 +100,10 @@ fn wait_behind(t: &[u32], chain: Chain, n: u32, w: u32) -> u32
     requires { (8 * n + 10 ≤ length t.now) × (chain ≡ Chain.ByTicks → 0 < n → w ≤ wait_of t.now n) }
     ensures { result ≡ wait_behind chain t.now n w }
 {
-    if n == 0 {
-        return 0;
-    }
-    let v = get(t, n, WAIT);
-    match chain {
+    wait_changed(t, n, |v| match chain {
         Chain::ByTicks => v - w,
-        Chain::ByDate => v,
-        Chain::Queue => v,
-    }
+        Chain::ByDate | Chain::Queue => v,
+    })
 }
 
 // Slot i leaves its chain.

@@ -9,10 +9,7 @@ use lib.IntN.{ℤ, pos}
 use lib.Dec.{ltb}
 use borrow.Author.Tests.{lt-ltb, le-ltb, eq-eqb, ne_eqb}
 use Rattle.calendar.specs.declared.WallTime.{WallTime}
-use Rattle.calendar.specs.declared.Date.{Date}
-use Rattle.calendar.specs.declared.Date.TheVariants.{On, PastTheLast}
-use Rattle.calendar.specs.declared.Instant.{Instant}
-use Rattle.calendar.specs.declared.Instant.TheVariants.{Second, NotValid}
+use Rattle.std.specs.Prelude.{Option, Some, None}
 use Rattle.calendar.specs.Calendar.{valid, seconds_of, date_of, instant_of, date_answer}
 use Rattle.calendar.proofs.Theorems.{second-answer, not-valid-answer, on-answer, past-answer}
 use Rattle.model.specs.declared.Status.{Status}
@@ -33,8 +30,8 @@ use Rattle.laws.proofs.SoundHolds.{sound-header}
 use Rattle.firing.specs.Lists.{Leaves}
 use Rattle.firing.proofs.Ticks.{moved_to}
 use Rattle.leaping.specs.Leaps.{Ready, LeapLeaves}
-use Rattle.answers.specs.declared.Answer.{Answer}
-use Rattle.answers.specs.declared.Answer.TheVariants.{Refused}
+use Rattle.std.specs.declared.result.Result.{Result}
+use Rattle.std.specs.declared.result.Result.TheVariants.{Err}
 use Rattle.answers.specs.Answers.{status_of, answer_of}
 use Rattle.answers.specs.Openings.{Opens}
 use Rattle.answers.proofs.Openings.{refuses-as}
@@ -43,23 +40,23 @@ use Rattle.clock.specs.Lent.{on_list, Lent}
 
 module _ (t : List ℕ) where
   -- the seconds of a sound table are not past the last
-  pub in-calendar : {d : Date} → sound t ≡ true → d ≡ date_answer (seconds t) → d ≡ PastTheLast → ⊥
+  pub in-calendar : {d : Option WallTime} → sound t ≡ true → d ≡ date_answer (seconds t) → d ≡ None → ⊥
   in-calendar ok e p = omega (arith, past-answer (seconds t) e p, (sound-header t ok).second-high)
 
-  pub time-now : {d : Date} {w : WallTime} → d ≡ date_answer (seconds t) → d ≡ On w → numbers w (ticks_into t) ≡ numbers (date_of (seconds t)) (ticks_into t)
+  pub time-now : {d : Option WallTime} {w : WallTime} → d ≡ date_answer (seconds t) → d ≡ Some w → numbers w (ticks_into t) ≡ numbers (date_of (seconds t)) (ticks_into t)
   time-now {w = w} e p = ap (λ (x : WallTime). numbers x (ticks_into t)) (on-answer (seconds t) w e p).is
 
 -- ---- set clock
 
 -- the date is not valid, or its ticks are T or more; or neither
 module _ (t : List ℕ) (w : WallTime) where
-  pub not_valid : {i : Instant} → i ≡ instant_of w → i ≡ NotValid → not_settable (read t) w ≡ true
+  pub not_valid : {i : Option ℕ} → i ≡ instant_of w → i ≡ None → not_settable (read t) w ≡ true
   not_valid e n = ap (λ (b : Bool). not (b && ltb w.ticks (ticks_per_second t))) (not-valid-answer w e n)
 
   pub too-many-ticks : ticks_per_second t ≤ w.ticks → not_settable (read t) w ≡ true
   too-many-ticks h = cases (valid w) (λ e. rw (e, le-ltb w.ticks (ticks_per_second t) h)) (λ e. rw e)
 
-  pub is-clock : {s : ℕ} {i : Instant} → i ≡ instant_of w → i ≡ Second s → w.ticks < ticks_per_second t → not_settable (read t) w ≡ false
+  pub is-clock : {s : ℕ} {i : Option ℕ} → i ≡ instant_of w → i ≡ Some s → w.ticks < ticks_per_second t → not_settable (read t) w ≡ false
   is-clock {s} e n h =
       ap not
       (and_both (valid w) (ltb w.ticks (ticks_per_second t)) (second-answer w s e n).is-valid (lt-ltb w.ticks (ticks_per_second t) h))
@@ -82,11 +79,11 @@ module _ (t : List ℕ) (w : WallTime) (list : List ℕ) {a u l : List ℕ} wher
       ∙ sym (rw (eq-eqb (status_on t (set_clock w list)) 0 is) refl)
 
 -- the table is not sound, or the list too short
-pub opening-refused : (t : List ℕ) (w : WallTime) (list : List ℕ) {P : ℕ → Type 0} {r : Answer} {s : Status} → Opens (on_list t list) P r → r ≡ Refused s
+pub opening-refused : (t : List ℕ) (w : WallTime) (list : List ℕ) {P : ℕ → Type 0} {r : Result ℕ Status} {s : Status} → Opens (on_list t list) P r → r ≡ Err s
     → (outcome_of (status_of r) (answer_of r) t list ≡ outcome t (set_clock w list)) × (pos 0 ≡ movement t w list)
 opening-refused t w list {r = r} {s = s} opens e =
     let o : outcome_of (status_of r) (answer_of r) t list ≡ outcome t (set_clock w list) = refuses-as t (set_clock w list) opens e _ refl refl in
-    (o, refused-stays t w list s (ap (λ (a : Answer). outcome_of (status_of a) (answer_of a) t list) (sym e) ∙ o))
+    (o, refused-stays t w list s (ap (λ (a : Result ℕ Status). outcome_of (status_of a) (answer_of a) t list) (sym e) ∙ o))
 
 -- a date that is not valid, or ticks of T or more
 pub clock-refused : (t : List ℕ) (w : WallTime) (list : List ℕ)
@@ -99,7 +96,7 @@ clock-refused t w list first given =
 
 -- ---- what it leaves
 
-pub second_is : (w : WallTime) {s : ℕ} {i : Instant} → i ≡ instant_of w → i ≡ Second s → s ≡ seconds_of w
+pub second_is : (w : WallTime) {s : ℕ} {i : Option ℕ} → i ≡ instant_of w → i ≡ Some s → s ≡ seconds_of w
 second_is w {s} e n = (second-answer w s e n).is
 
 -- it fires the dated timers, up to the second given

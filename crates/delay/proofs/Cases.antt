@@ -6,7 +6,7 @@ use mathlib.Core.Bool.{true, false}
 use mathlib.Core.List.{List, [], ◌∷◌, map}
 use lib.Ieee.{Float, nan, inf, binary64, round, neg, of_bits, to_bits}
 use Rattle.model.specs.declared.Status.TheVariants.{InvalidNumber}
-use Rattle.answers.specs.declared.Answer.TheVariants.{Done, Refused}
+use Rattle.std.specs.declared.result.Result.TheVariants.{Ok, Err}
 use Rattle.delay.specs.Seconds.{Conversion, conversion, conversion_of, gives, refused, ceil, ticks_of_value, converted}
 
 -- ---- a conversion in numbers: status and ticks, 0 and 10 as the document has them
@@ -21,10 +21,10 @@ pub refused-with-10 : refused ≡ conversion 10 0
 refused-with-10 = refl
 
 -- of what the code answers
-pub done : (n : ℕ) → conversion_of (Done n) ≡ conversion 0 n
+pub done : (n : ℕ) → conversion_of (Ok n) ≡ conversion 0 n
 done n = refl
 
-pub not_done : conversion_of (Refused InvalidNumber) ≡ conversion 10 0
+pub not_done : conversion_of (Err InvalidNumber) ≡ conversion 10 0
 not_done = refl
 
 -- ---- both sides of each edge

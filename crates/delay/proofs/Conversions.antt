@@ -1,10 +1,9 @@
 -- Which numbers and which T a conversion refuses, rule by rule as the code has them; and a refusal has no ticks. Assumes nothing.
 use Prim.Native.Nat.{ℕ, ◌*◌, ◌≤◌, ◌<◌}
-use mathlib.Core.Path.{◌≡◌, refl, sym, ap, ◌∙◌, subst}
+use mathlib.Core.Path.{◌≡◌, refl, sym}
 use mathlib.Core.Bool.{true, false, not, ◌&&◌}
-use lib.Dec.{T, leb, eqb}
-use lib.Ieee.{Float, nan, inf, fin, up, down, is_nan, ne}
-use lib.Ieee.Compare.{differs_from_itself, nan_differs}
+use lib.Dec.{leb, eqb}
+use lib.Ieee.{Float, nan, inf, fin, up, down, is_nan}
 use borrow.Author.Tests.{le-leb, lt-leb}
 use Rattle.laws.proofs.ListLaws.{cases, clash}
 use Rattle.delay.specs.Seconds.{refused, ceil, within, ticks_of_value, converted}
@@ -28,14 +27,11 @@ nan-refused : (rate : ℕ) → ticks_of_value nan rate ≡ refused
 unfolding ticks_of_value
 nan-refused rate = refl
 
-pub no_number : (x : Float) (rate : ℕ) → ne x x ≡ true → refused ≡ ticks_of_value x rate
-no_number x rate h = sym (ap (λ (y : Float). ticks_of_value y rate) (differs_from_itself x (subst T (sym h) tt)) ∙ nan-refused rate)
-
-pub number : (x : Float) → ne x x ≡ false → T (not (is_nan x))
+pub no_number : (x : Float) (rate : ℕ) → is_nan x ≡ true → refused ≡ ticks_of_value x rate
 unfolding is_nan
-number nan h = clash (sym nan_differs ∙ h)
-number (inf s) h = tt
-number (fin s m e) h = tt
+no_number nan rate h = sym (nan-refused rate)
+no_number (inf s) rate h = clash (sym h)
+no_number (fin s m e) rate h = clash (sym h)
 
 -- ---- a refusal has no ticks
 

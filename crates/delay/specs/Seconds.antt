@@ -5,7 +5,8 @@ use Rattle.std.specs.Float.Ieee.{up, down}
 use Rattle.model.specs.Outcome.{first_number}
 use Rattle.model.specs.declared.Status.TheVariants.{InvalidNumber}
 use Rattle.model.specs.Status.{number_of}
-use Rattle.answers.specs.declared.Answer.{Answer}
+use Rattle.model.specs.declared.Status.{Status}
+use Rattle.std.specs.declared.result.Result.{Result}
 use Rattle.answers.specs.Answers.{status_of, answer_of}
 
 -- what comes of a conversion: the status, and the ticks
@@ -18,7 +19,7 @@ abbrev pub conversion : ℕ → ℕ → Conversion
 conversion status ticks = record { status = status; ticks = ticks }
 
 -- the status of an answer and its number, which are the ticks
-abbrev pub conversion_of : Answer → Conversion
+abbrev pub conversion_of : Result ℕ Status → Conversion
 conversion_of r = conversion (status_of r) (first_number (answer_of r))
 
 -- so many ticks are given

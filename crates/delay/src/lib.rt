@@ -8,13 +8,12 @@ ghost use Rattle.std.specs.Float.Ieee.{of_bits};
 ghost use Rattle.delay.specs.Seconds.{conversion_of, ticks_of_fraction, ticks_of_value, converted};
 ghost use Rattle.delay.specs.Exact.{Exact};
 
-use answers::Answer;
 use calendar::WallTime;
 use model::Status;
 use table::MOST_RATE;
 
 // How long until a timer fires: so many ticks, seconds, or until a date.
-#[derive(Clone, Copy)]
+#[derive(Clone, Copy, Debug, PartialEq)]
 pub enum Delay {
     Ticks(u32),
     Seconds(f64),
@@ -44,33 +43,35 @@ const PLACES: u64 = 1074;
 const PRODUCT_BITS: u64 = 63;
 
 // The ticks of digits * 2 ^ (scale - PLACES) seconds, with a sign. Where the point stands further left than the product has bits, that is less than a tick.
-fn ticks_of_fraction(negative: bool, digits: u64, scale: u64, rate: u32) -> Answer
+// (T's bounds stand here and in `ticks_of_bits` alone: a type for T would take more lines than it saves.)
+fn ticks_of_fraction(negative: bool, digits: u64, scale: u64, rate: u32) -> Result<u32, Status>
     requires { (digits < 2 ^ 53) × (rate ≤ 1000) × (1 ≤ rate) × (0 < scale → 2 ^ 52 ≤ digits) }
     ensures { conversion_of result ≡ ticks_of_fraction negative (digits * 2 ^ scale) (2 ^ 1074) rate }
 {
     if digits == 0 {
-        return Answer::Done(0);
+        return Ok(0);
     }
     if negative {
-        return Answer::Refused(Status::InvalidNumber);
+        return Err(Status::InvalidNumber);
     }
     if PLACES < scale {
-        return Answer::Refused(Status::InvalidNumber);
+        return Err(Status::InvalidNumber);
     }
     let shift = PLACES - scale;
     if PRODUCT_BITS < shift {
-        return Answer::Done(1);
+        return Ok(1);
     }
-    let product = digits * (rate as u64);
+    let product = digits * u64::from(rate);
     let ticks = ((product - 1) >> shift) + 1;
+    // (by `try_from` hc_seconds_to_ticks takes 62 instructions for 57)
     if MOST_TICKS < ticks {
-        return Answer::Refused(Status::InvalidNumber);
+        return Err(Status::InvalidNumber);
     }
-    Answer::Done(ticks as u32)
+    Ok(ticks as u32)
 }
 
 // The ticks of the number that has these bits.
-fn ticks_of_bits(bits: u64, rate: u32) -> Answer
+fn ticks_of_bits(bits: u64, rate: u32) -> Result<u32, Status>
     requires { (rate ≤ 1000) × (1 ≤ rate) }
     ensures { conversion_of result ≡ ticks_of_value (of_bits binary64 bits) rate }
 {
@@ -78,7 +79,7 @@ fn ticks_of_bits(bits: u64, rate: u32) -> Answer
     let exponent = bits / EXPONENT % EXPONENTS;
     let significand = bits % EXPONENT;
     if exponent == SPECIAL {
-        return Answer::Refused(Status::InvalidNumber);
+        return Err(Status::InvalidNumber);
     }
     if exponent == 0 {
         return ticks_of_fraction(negative, significand, 0, rate);
@@ -87,19 +88,20 @@ fn ticks_of_bits(bits: u64, rate: u32) -> Answer
 }
 
 // The smallest whole number of ticks not below so many seconds, at `rate` ticks in a second.
-pub fn seconds_to_ticks(seconds: f64, rate: u32) -> Answer
+pub fn seconds_to_ticks(seconds: f64, rate: u32) -> Result<u32, Status>
     ensures outcome { conversion_of result ≡ converted seconds rate }
     ensures exact { Exact seconds rate (conversion_of result) }
 {
+    // (by `contains` these two tests leave their answers a test of a range to take apart)
     if rate < 1 {
-        return Answer::Refused(Status::InvalidNumber);
+        return Err(Status::InvalidNumber);
     }
     if MOST_RATE < rate {
-        return Answer::Refused(Status::InvalidNumber);
+        return Err(Status::InvalidNumber);
     }
-    // what is not a number has no one pattern of bits to ask for, and alone differs from itself
-    if seconds != seconds {
-        return Answer::Refused(Status::InvalidNumber);
+    // what is not a number has no one pattern of bits to ask for
+    if seconds.is_nan() {
+        return Err(Status::InvalidNumber);
     }
-    ticks_of_bits(f64::to_bits(seconds), rate)
+    ticks_of_bits(seconds.to_bits(), rate)
 }

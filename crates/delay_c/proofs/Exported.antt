@@ -8,7 +8,8 @@ use lib.Ieee.{Float}
 use Rattle.model.specs.Calls.{fire_after}
 use Rattle.model.specs.Words.{ticks_per_second}
 use Rattle.model.specs.Outcome.{first_number, Outcome, outcome_of, status_on, refused, accepted, outcome}
-use Rattle.answers.specs.declared.Answer.{Answer}
+use Rattle.std.specs.Prelude.{Result}
+use Rattle.model.specs.declared.Status.{Status}
 use Rattle.answers.specs.Answers.{status_of, answer_of}
 use Rattle.delay.specs.declared.Delay.TheVariants.{Seconds}
 use Rattle.delay.specs.Seconds.{conversion, conversion_of, converted}
@@ -17,7 +18,7 @@ use Rattle.delayed.specs.Starts.{started}
 use Rattle.delayed.proofs.Seconds.{after-ticks}
 
 -- the numbers of a conversion
-pub numbered : (x : Float) (rate : ℕ) (a : Answer) (status ticks : ℕ) → status ≡ status_of a → ticks ∷ [] ≡ answer_of a
+pub numbered : (x : Float) (rate : ℕ) (a : Result ℕ Status) (status ticks : ℕ) → status ≡ status_of a → ticks ∷ [] ≡ answer_of a
     → (conversion_of a ≡ converted x rate) × Exact x rate (conversion_of a)
     → (conversion status ticks ≡ converted x rate) × Exact x rate (conversion status ticks)
 numbered x rate a status ticks s n h = rw (s, ap first_number n) h

@@ -1,5 +1,6 @@
 // Delays in seconds for C: the prototypes of include/heathcinder.h. A slice is a pointer and a length there, and seconds are a `double`. Each call gives
-// its status as the result; the ticks of a conversion go through the pointer, 0 on a refusal. The contracts are the calls' own equations.
+// its status as the result; the ticks of a conversion go through the pointer, 0 on a refusal. The contracts are the calls' own equations. (The parameters are
+// those of include/heathcinder.h.)
 #![tactic(auto)]
 
 ghost use Rattle.std.specs.Prelude.{◌≡◌, [], ◌∷◌};

@@ -8,19 +8,17 @@ ghost use Rattle.answers.specs.Answers.{status_of, answer_of};
 ghost use Rattle.delay.specs.Seconds.{converted};
 ghost use Rattle.delayed.specs.Starts.{started};
 
-use answers::{Answer, number_in};
+use answers::number_in;
 use delay::{Delay, seconds_to_ticks};
+use model::Status;
 use starts::{fire_after, fire_when};
 use table::TICKS_PER_SECOND;
 
-// The ticks in a second of a table; 0 where it has no such word.
+// The ticks in a second of a table; 0 where it has no such word, as `ticks_per_second` has it. (No Option: fire after refuses such a table whatever the ticks.)
 fn rate_of(table: &[u32]) -> u32
     ensures { result ≡ ticks_per_second table.now }
 {
-    if table.len() <= TICKS_PER_SECOND {
-        return 0;
-    }
-    table[TICKS_PER_SECOND]
+    table.get(TICKS_PER_SECOND).copied().unwrap_or(0)
 }
 
 // The ticks of a number of seconds; 0 where it is refused, which fire after refuses with the same status in the same place.
@@ -30,7 +28,7 @@ fn ticks_in(seconds: f64, rate: u32) -> u32
     number_in(seconds_to_ticks(seconds, rate))
 }
 
-// A timer fires so many ticks or seconds from now, or at a date.
+// A timer fires so many ticks or seconds from now, or at a date. (The parameters stand as in the calls that it hands on to, and in `started`.)
 pub fn fire_after_delay(
     table: &mut [u32],
     party: u32,
@@ -38,7 +36,7 @@ pub fn fire_after_delay(
     delay: Delay,
     routine: u32,
     user_data: u32,
-) -> Answer
+) -> Result<u32, Status>
     ensures { outcome_of (status_of result) (answer_of result) table.new [] ≡ started table.old party id delay routine user_data }
 {
     match delay {

@@ -2,10 +2,11 @@
 // second. Prints one line each: the delay, status and answer, and what became of the timer. `stdout` is written by hand from the document.
 #![tactic(auto)]
 
-use answers::{Answer, number_in, status_of};
+use answers::{number_in, status_of};
 use calendar::WallTime;
 use delay::{Delay, seconds_to_ticks};
 use delayed::fire_after_delay;
+use model::Status;
 use std::io;
 use table::{CLOCK_SET, ONE_PARTY, PARTY_1, PARTY_2};
 
@@ -21,12 +22,12 @@ const TABLE: usize = 34;
 
 const LIST: usize = 9;
 
-// The id of slot 1, one that names no timer, and the id of slot 3.
+// The id of slot 1, one that names no timer, and the id of slot 3. (Ids are numbers: document 01 says which.)
 const TIMER: u32 = 302055425;
 
-const NO_TIMER: u32 = 302055426;
+const NO_TIMER: u32 = TIMER + 1;
 
-const OTHERS_TIMER: u32 = 302055427;
+const OTHERS_TIMER: u32 = TIMER + 2;
 
 // So many seconds into 2000, with a ticks field.
 fn second(number: u32, ticks: u32) -> WallTime {
@@ -41,8 +42,8 @@ fn second(number: u32, ticks: u32) -> WallTime {
     }
 }
 
-// Prints what was asked for, status and answer.
-fn show(rt: &impl Print, label: &str, answer: Answer) -> io::Result<()> {
+// Prints what was asked for, status and answer. (A `Display` would want a type of our own around each answer.)
+fn show(rt: &impl Print, label: &str, answer: Result<u32, Status>) -> io::Result<()> {
     print!(rt; "{label}: {} {}", status_of(answer), number_in(answer))
 }
 
@@ -65,8 +66,7 @@ fn conversions(rt: &impl Print) -> io::Result<()> {
     convert(rt, "0, T 1000", 0.0, 1000)?;
     convert(rt, "-0, T 1000", -0.0, 1000)?;
     convert(rt, "4294967295 s, T 1", 4294967295.0, 1)?;
-    convert(rt, "4294967.295 s, T 1000", 4294967.295, 1000)?;
-    Ok(())
+    convert(rt, "4294967.295 s, T 1000", 4294967.295, 1000)
 }
 
 fn refused_conversions(rt: &impl Print) -> io::Result<()> {
@@ -89,8 +89,7 @@ fn refused_conversions(rt: &impl Print) -> io::Result<()> {
     convert(rt, "-infinity, T 10", -infinity, 10)?;
     convert(rt, "not a number, T 10", 0.0 / 0.0, 10)?;
     convert(rt, "1 s, T 0", 1.0, 0)?;
-    convert(rt, "1 s, T 1001", 1.0, 1001)?;
-    Ok(())
+    convert(rt, "1 s, T 1001", 1.0, 1001)
 }
 
 // Prints the ticks that a party's timer has left.
@@ -98,141 +97,132 @@ fn show_left(rt: &impl Print, table: &[u32], party: u32, id: u32) -> io::Result<
     println!(rt; ", left {}", number_in(timer::ticks_left(table, party, id)))
 }
 
-// Lays out a table of one party and starts its timer for nine ticks; then starts it by the delay, as the party that is given.
-fn start_as(
-    rt: &impl Print,
-    label: &str,
+// What a party asks for: a start of a timer.
+#[derive(Clone, Copy, Debug, PartialEq)]
+struct Request {
     party: u32,
     id: u32,
     delay: Delay,
     routine: u32,
-) -> io::Result<()> {
+}
+
+// Party 1 starts its timer.
+fn own(delay: Delay) -> Request {
+    Request {
+        party: PARTY_1,
+        id: TIMER,
+        delay,
+        routine: 7,
+    }
+}
+
+// A table where a party has a timer, the first in its slots.
+fn with_timer(split: u32, party: u32) -> [u32; TABLE] {
     let mut table = [0u32; TABLE];
-    timer::lay_out(&mut table, SLOTS, RATE, ONE_PARTY);
-    timer::create(&mut table, PARTY_1, 1);
-    fire_after_delay(&mut table, PARTY_1, TIMER, Delay::Ticks(9), 7, 70);
-    show(
-        rt,
-        label,
-        fire_after_delay(&mut table, party, id, delay, routine, 70),
-    )?;
+    let _ = timer::lay_out(&mut table, SLOTS, RATE, split);
+    let _ = timer::create(&mut table, party, 1);
+    table
+}
+
+// A table of one party, whose timer waits for nine ticks.
+fn waiting() -> [u32; TABLE] {
+    let mut table = with_timer(ONE_PARTY, PARTY_1);
+    let _ = ask(&mut table, own(Delay::Ticks(9)));
+    table
+}
+
+fn ask(table: &mut [u32], request: Request) -> Result<u32, Status> {
+    fire_after_delay(
+        table,
+        request.party,
+        request.id,
+        request.delay,
+        request.routine,
+        70,
+    )
+}
+
+// Starts a timer that waits for nine ticks.
+fn start_as(rt: &impl Print, label: &str, request: Request) -> io::Result<()> {
+    let mut table = waiting();
+    show(rt, label, ask(&mut table, request))?;
     show_left(rt, &table, PARTY_1, TIMER)
 }
 
-fn start(rt: &impl Print, label: &str, id: u32, delay: Delay, routine: u32) -> io::Result<()> {
-    start_as(rt, label, PARTY_1, id, delay, routine)
+// (Here and below rt and label go through as they are: a struct of both would be made anew for each line.)
+fn start(rt: &impl Print, label: &str, delay: Delay) -> io::Result<()> {
+    start_as(rt, label, own(delay))
 }
 
 // Ten ticks are a second. A start that is refused leaves the timer waiting for the ticks that it had.
 fn starts_for_ticks(rt: &impl Print) -> io::Result<()> {
-    start(rt, "start, 1.5 s", TIMER, Delay::Seconds(1.5), 7)?;
-    start(rt, "start, 0.1 s", TIMER, Delay::Seconds(0.1), 7)?;
-    start(rt, "start, 15 ticks", TIMER, Delay::Ticks(15), 7)?;
-    start(
-        rt,
-        "start, 4294967295 ticks",
-        TIMER,
-        Delay::Ticks(4294967295),
-        7,
-    )?;
-    start(
-        rt,
-        "start, 429496729.5 s",
-        TIMER,
-        Delay::Seconds(429496729.5),
-        7,
-    )?;
-    start(
-        rt,
-        "start, 429496729.6 s",
-        TIMER,
-        Delay::Seconds(429496729.6),
-        7,
-    )?;
-    start(rt, "start, 0", TIMER, Delay::Seconds(0.0), 7)?;
-    start(rt, "start, -0", TIMER, Delay::Seconds(-0.0), 7)?;
-    start(rt, "start, 0 ticks", TIMER, Delay::Ticks(0), 7)?;
-    start(
-        rt,
-        "start, not a number",
-        TIMER,
-        Delay::Seconds(0.0 / 0.0),
-        7,
-    )?;
-    start(
+    start(rt, "start, 1.5 s", Delay::Seconds(1.5))?;
+    start(rt, "start, 0.1 s", Delay::Seconds(0.1))?;
+    start(rt, "start, 15 ticks", Delay::Ticks(15))?;
+    start(rt, "start, 4294967295 ticks", Delay::Ticks(4294967295))?;
+    start(rt, "start, 429496729.5 s", Delay::Seconds(429496729.5))?;
+    start(rt, "start, 429496729.6 s", Delay::Seconds(429496729.6))?;
+    start(rt, "start, 0", Delay::Seconds(0.0))?;
+    start(rt, "start, -0", Delay::Seconds(-0.0))?;
+    start(rt, "start, 0 ticks", Delay::Ticks(0))?;
+    start(rt, "start, not a number", Delay::Seconds(0.0 / 0.0))?;
+    let no_timer = Request {
+        id: NO_TIMER,
+        ..own(Delay::Seconds(1.5))
+    };
+    start_as(
         rt,
         "start, not a number, routine 0, no timer",
-        NO_TIMER,
-        Delay::Seconds(0.0 / 0.0),
-        0,
+        Request {
+            delay: Delay::Seconds(0.0 / 0.0),
+            routine: 0,
+            ..no_timer
+        },
     )?;
-    start(
+    start_as(
         rt,
         "start, 1.5 s, routine 0, no timer",
-        NO_TIMER,
-        Delay::Seconds(1.5),
-        0,
+        Request {
+            routine: 0,
+            ..no_timer
+        },
     )?;
-    start(
-        rt,
-        "start, 1.5 s, no timer",
-        NO_TIMER,
-        Delay::Seconds(1.5),
-        7,
-    )?;
-    start(
-        rt,
-        "start, date, clock not set",
-        TIMER,
-        Delay::Date(second(1, 0)),
-        7,
-    )?;
-    Ok(())
+    start_as(rt, "start, 1.5 s, no timer", no_timer)?;
+    start(rt, "start, date, clock not set", Delay::Date(second(1, 0)))
 }
 
 // A table that is not sound is refused before the number of seconds is. Its timer waits for nine ticks, and with its word mended waits for them still.
 fn start_unsound(rt: &impl Print, label: &str, delay: Delay) -> io::Result<()> {
-    let mut table = [0u32; TABLE];
-    timer::lay_out(&mut table, SLOTS, RATE, ONE_PARTY);
-    timer::create(&mut table, PARTY_1, 1);
-    fire_after_delay(&mut table, PARTY_1, TIMER, Delay::Ticks(9), 7, 70);
+    let mut table = waiting();
     table[CLOCK_SET] = 2;
-    show(
-        rt,
-        label,
-        fire_after_delay(&mut table, PARTY_1, TIMER, delay, 7, 70),
-    )?;
+    show(rt, label, ask(&mut table, own(delay)))?;
     table[CLOCK_SET] = 0;
     show_left(rt, &table, PARTY_1, TIMER)
 }
 
 // Starts party 2's timer as the party that is given.
-fn start_others(rt: &impl Print, label: &str, party: u32, delay: Delay) -> io::Result<()> {
-    let mut table = [0u32; TABLE];
-    timer::lay_out(&mut table, SLOTS, RATE, SPLIT);
-    timer::create(&mut table, PARTY_2, 1);
-    show(
-        rt,
-        label,
-        fire_after_delay(&mut table, party, OTHERS_TIMER, delay, 7, 70),
-    )?;
+fn start_others(rt: &impl Print, label: &str, party: u32) -> io::Result<()> {
+    let mut table = with_timer(SPLIT, PARTY_2);
+    let request = Request {
+        party,
+        id: OTHERS_TIMER,
+        ..own(Delay::Seconds(1.5))
+    };
+    show(rt, label, ask(&mut table, request))?;
     show_left(rt, &table, PARTY_2, OTHERS_TIMER)
 }
 
 // A date is as by fire when. Prints also how many ticks pass until the timer fires, of a thousand.
 fn start_from_second_0(rt: &impl Print, label: &str, delay: Delay) -> io::Result<()> {
-    let mut table = [0u32; TABLE];
+    let mut table = with_timer(ONE_PARTY, PARTY_1);
     let mut fired = [0u32; LIST];
-    timer::lay_out(&mut table, SLOTS, RATE, ONE_PARTY);
-    timer::create(&mut table, PARTY_1, 1);
-    clock::set_clock(&mut table, second(0, 0), &mut fired);
-    show(
-        rt,
-        label,
-        fire_after_delay(&mut table, PARTY_1, TIMER, delay, 7, 70),
-    )?;
-    let progress = clock::leap(&mut table, 1000, &mut fired);
-    println!(rt; ", ticks {}", progress.done)
+    let _ = clock::set_clock(&mut table, second(0, 0), &mut fired);
+    show(rt, label, ask(&mut table, own(delay)))?;
+    let ticks = match clock::leap(&mut table, 1000, &mut fired) {
+        Ok(progress) => progress.done,
+        Err(_) => 0,
+    };
+    println!(rt; ", ticks {ticks}")
 }
 
 fn main(rt: HostRuntime) -> io::Result<()> {
@@ -245,29 +235,21 @@ fn main(rt: HostRuntime) -> io::Result<()> {
         Delay::Seconds(0.0 / 0.0),
     )?;
     start_unsound(&rt, "start, 1.5 s, table not sound", Delay::Seconds(1.5))?;
-    start_others(&rt, "start, 1.5 s, party 2", PARTY_2, Delay::Seconds(1.5))?;
-    start_others(
-        &rt,
-        "start, 1.5 s, party 1, party 2's timer",
-        PARTY_1,
-        Delay::Seconds(1.5),
-    )?;
+    start_others(&rt, "start, 1.5 s, party 2", PARTY_2)?;
+    start_others(&rt, "start, 1.5 s, party 1, party 2's timer", PARTY_1)?;
+    let second_party = Request {
+        party: PARTY_2,
+        ..own(Delay::Seconds(1.5))
+    };
     start_as(
         &rt,
         "start, not a number, party 2 of one",
-        PARTY_2,
-        TIMER,
-        Delay::Seconds(0.0 / 0.0),
-        7,
+        Request {
+            delay: Delay::Seconds(0.0 / 0.0),
+            ..second_party
+        },
     )?;
-    start_as(
-        &rt,
-        "start, 1.5 s, party 2 of one",
-        PARTY_2,
-        TIMER,
-        Delay::Seconds(1.5),
-        7,
-    )?;
+    start_as(&rt, "start, 1.5 s, party 2 of one", second_party)?;
     start_from_second_0(
         &rt,
         "start, date, the present second",

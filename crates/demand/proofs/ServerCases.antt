@@ -1,13 +1,13 @@
 -- Document 02, item 5, the deferred server, in the words of demand 3: cases, computed. Assumes nothing.
 use mathlib.Core.Path.{◌≡◌, refl}
-use Prim.Native.Nat.{ℕ, ◌+◌}
+use Prim.Native.Nat.{ℕ}
 use mathlib.Core.Bool.{true, false}
 use mathlib.Core.Option.{none, some}
 use mathlib.Core.List.{List, [], ◌∷◌, ◌++◌, map}
-use lib.ListN.{replicate, set}
+use lib.ListN.{replicate}
 use Rattle.calendar.specs.Calendar.{months_of, years, valid, seconds_of}
 use Rattle.model.specs.Lists.{keep, InOrder}
-use Rattle.model.specs.Calls.{Call, lay_out, create, cancel, delete, fire_after, reset, tick, initiate_server, server_fire_after, server_fire_when, serve}
+use Rattle.model.specs.Calls.{Call, lay_out, create, cancel, fire_after, reset, tick, initiate_server, server_fire_after, server_fire_when, serve}
 use Rattle.model.specs.declared.Chain.{Chain}
 use Rattle.model.specs.declared.Chain.TheVariants.{ByTicks, ByDate}
 use Rattle.model.specs.declared.Mode.TheVariants.{After, ServerAfter, ServerWhen}
@@ -17,8 +17,8 @@ use Rattle.demand.specs.History.{Start, start_of, Event, events_on, laid_out_for
 use Rattle.demand.specs.Demand.{HandsOut, events_after, Demanded}
 use Rattle.laws.proofs.Order.{order, order-in-order}
 use Rattle.demand.proofs.QueueLaws.{queue-calm, queue-moved}
-use Rattle.model.proofs.Cases.{calls, date}
-use Rattle.model.proofs.WorkedCases.{one, two, three, six, no}
+use Rattle.model.proofs.Cases.{date}
+use Rattle.model.proofs.WorkedCases.{one, two, three, six}
 
 abbrev third : ℕ
 third = 0x12010003

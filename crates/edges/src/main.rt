@@ -3,46 +3,19 @@
 // copied. `stdout` is written by hand from the documents. A new case is a line of both files; a new call is a number and an arm.
 #![tactic(auto)]
 
-ghost use Rattle.std.specs.Prelude.{◌≤◌, ◌≡◌, length, nat_abs, IfOk};
+ghost use Rattle.std.specs.Prelude.{◌≤◌, length, IfOk};
 
-use answers::{Answer, Progress, Reading, Setting};
+use answers::{Progress, Setting};
 use calendar::WallTime;
 use clock::*;
-use recording::*;
+use model::{SUCCESSFUL, Status};
+use recording::CallNumber;
 use server::*;
 use starts::*;
 use std::io;
 use std::io::Read;
 use table::{PARTY_1, SLOT_COUNT, TICKS_PER_SECOND};
 use timer::*;
-
-// Lay out is call 1, and crate `recording` numbers the others; their arguments come in the order of `model`. A wall time is two words:
-// 20000229 235959 is the last second of 2000-02-29; set clock has its ticks as a third, 0 where it is left out. Serve has the word from which on it is
-// lent the list: 6 lends it three words of the nine, 7 two, 9 none. Lay out has L as its third, 0 where it is left out. The caller is party 1 until a
-// step says another.
-const LAY_OUT: u32 = 1;
-
-// Steps that are no calls: none; so many words of the list are printed; a word of the table becomes a number; another party calls.
-const NONE: u32 = 0;
-
-const PRINT_LIST: u32 = 50;
-
-const CHANGE_WORD: u32 = 51;
-
-const CALLER: u32 = 52;
-
-// A call that is lent a word too few for three slots, 33 of the table or 8 of the list, has 100 more.
-const SHORT_LAY_OUT: u32 = 101;
-
-const SHORT_CREATE: u32 = 102;
-
-const SHORT_TICK: u32 = 110;
-
-const SHORT_SET_CLOCK: u32 = 111;
-
-const SHORT_LEAP: u32 = 119;
-
-const SHORT_NEXT_DUE: u32 = 114;
 
 // The words of a table and of a list for three slots.
 const TABLE: usize = 34;
@@ -54,10 +27,26 @@ const MOST: u32 = 4294967295;
 // The bytes that there is room for in `stdin`.
 const TEXT: usize = 163840;
 
-// The words of a step; those that a line leaves out are zero.
-#[derive(Clone, Copy)]
+// What a step is, by its number.
+#[derive(Clone, Copy, Debug, PartialEq, Eq)]
+enum Action {
+    Nothing,
+    LayOut,
+    Call(CallNumber),
+    // so many words of the list are printed; a word of the table becomes a number; another party calls
+    PrintList,
+    ChangeWord,
+    Caller,
+    // a call that is lent a word too few for three slots, 33 of the table or 8 of the list
+    ShortLayOut,
+    ShortCall(CallNumber),
+    Unknown,
+}
+
+// A step: the words behind its number, which are zero where a line leaves them out.
+#[derive(Clone, Copy, Debug, PartialEq, Eq)]
 struct Step {
-    number: u32,
+    action: Action,
     a: u32,
     b: u32,
     c: u32,
@@ -65,36 +54,69 @@ struct Step {
     e: u32,
 }
 
-// How far a number is from zero.
-fn magnitude(number: i64) -> u64
-    ensures { result ≡ nat_abs number }
-{
-    if number < 0 {
-        return (0 - (number + 1)) as u64 + 1;
+// Lay out is step 1, and crate `recording` numbers the other calls; their arguments come in the order of `model`. A call that is lent a word too few has
+// 100 more. A wall time is two words: 20000229 235959 is the last second of 2000-02-29; set clock has its ticks as a third, 0 where it is left out. Serve
+// has the word from which on it is lent the list: 6 lends it three words of the nine, 7 two, 9 none. Lay out has L as its third, 0 where it is left out.
+// The caller is party 1 until a step says another.
+fn action_of(number: u32) -> Action {
+    if let Ok(call) = CallNumber::try_from(number) {
+        return Action::Call(call);
     }
-    number as u64
-}
-
-// Prints a number that may be below zero.
-fn print_signed(rt: &impl Print, number: i64) -> io::Result<()> {
-    let sign = if number < 0 { "-" } else { "" };
-    print!(rt; " {sign}{}", magnitude(number))
-}
-
-// Prints status and answer.
-fn show(rt: &impl Print, answer: Answer) -> io::Result<()> {
-    match answer {
-        Answer::Done(number) => print!(rt; " {} {number}", status::SUCCESSFUL),
-        Answer::Refused(refusal) => print!(rt; " {} 0", status::number_of(refusal)),
+    if let Ok(call) = CallNumber::try_from(number.wrapping_sub(100)) {
+        return Action::ShortCall(call);
+    }
+    match number {
+        0 => Action::Nothing,
+        1 => Action::LayOut,
+        50 => Action::PrintList,
+        51 => Action::ChangeWord,
+        52 => Action::Caller,
+        101 => Action::ShortLayOut,
+        _ => Action::Unknown,
     }
 }
 
-// Prints status and wall time.
-fn show_time(rt: &impl Print, status: u32, w: WallTime) -> io::Result<()> {
-    print!(rt;
-        " {status} {} {} {} {} {} {} {}",
-        w.year, w.month, w.day, w.hour, w.minute, w.second, w.ticks
-    )
+// Prints status and answer, whose numbers are zeros where it is refused.
+fn show<const N: usize>(rt: &impl Print, answer: Result<[i64; N], Status>) -> io::Result<()> {
+    let (status, numbers) = match answer {
+        Ok(numbers) => (SUCCESSFUL, numbers),
+        Err(refusal) => (u32::from(refusal), [0; N]),
+    };
+    print!(rt; " {status}")?;
+    for number in numbers {
+        print!(rt; " {number}")?;
+    }
+    Ok(())
+}
+
+// An answer of one number. (The next three differ from it in the fields that they read.)
+fn one(answer: Result<u32, Status>) -> Result<[i64; 1], Status> {
+    answer.map(|number| [i64::from(number)])
+}
+
+// What set clock answers: how many timers fired, and how far the clock moved.
+fn setting(answer: Result<Setting, Status>) -> Result<[i64; 2], Status> {
+    answer.map(|s| [i64::from(s.fired), s.moved])
+}
+
+// What leap answers: how many timers fired, and the ticks done.
+fn progress(answer: Result<Progress, Status>) -> Result<[i64; 2], Status> {
+    answer.map(|p| [i64::from(p.fired), i64::from(p.done)])
+}
+
+// What get clock answers.
+fn reading(answer: Result<WallTime, Status>) -> Result<[i64; 7], Status> {
+    answer.map(|w| {
+        [
+            i64::from(w.year),
+            i64::from(w.month),
+            i64::from(w.day),
+            i64::from(w.hour),
+            i64::from(w.minute),
+            i64::from(w.second),
+            i64::from(w.ticks),
+        ]
+    })
 }
 
 // The wall time whose date and time of day have these decimal digits.
@@ -106,118 +128,60 @@ fn wall_time(date: u32, time: u32, ticks: u32) -> WallTime {
         hour: time / 10000,
         minute: time / 100 % 100,
         second: time % 100,
-        ticks: ticks,
-    }
-}
-
-// Prints what set clock answers: status, count and how far the clock moved.
-fn show_setting(rt: &impl Print, setting: Setting) -> io::Result<()> {
-    let answer = setting.answer;
-    let moved = setting.moved;
-    show(rt, answer)?;
-    print_signed(rt, moved)
-}
-
-// Prints what leap answers: status, count and the ticks done.
-fn show_progress(rt: &impl Print, progress: Progress) -> io::Result<()> {
-    let answer = progress.answer;
-    let done = progress.done;
-    show(rt, answer)?;
-    print!(rt; " {done}")
-}
-
-// Prints what get clock answers: seven zeros where it is refused.
-fn show_reading(rt: &impl Print, reading: Reading) -> io::Result<()> {
-    match reading {
-        Reading::Time(w) => show_time(rt, status::SUCCESSFUL, w),
-        Reading::Unread(refusal) => show_time(rt, status::number_of(refusal), wall_time(0, 0, 0)),
+        ticks,
     }
 }
 
 // Prints so many words of the list.
 fn print_list(rt: &impl Print, list: &[u32; LIST], count: u32) -> io::Result<()> {
-    let mut i = 0;
-    while i < LIST {
-        if (i as u32) < count {
-            print!(rt; " {}", list[i])?;
-        }
-        i += 1;
+    for word in list.iter().take(count as usize) {
+        print!(rt; " {word}")?;
     }
     Ok(())
 }
 
-// Makes a call that is lent a word too few for three slots. Any other number is no step's.
-fn short_call(number: u32, party: u32, a: u32, b: u32, c: u32, table: &mut [u32; TABLE]) -> Answer {
-    let mut list = [0u32; LIST - 1];
-    let mut cut = [0u32; TABLE - 1];
-    cut[SLOT_COUNT] = 3;
-    cut[TICKS_PER_SECOND] = 10;
-    match number {
-        SHORT_LAY_OUT => lay_out(&mut cut, a, b, c),
-        SHORT_CREATE => create(&mut cut, party, a),
-        SHORT_NEXT_DUE => next_due::next_due(&cut),
-        SHORT_TICK => tick(table, &mut list),
-        _ => Answer::Done(MOST),
-    }
-}
-
 // Serves, with the list lent from a word on. A word past its end is no step's.
-fn serve_from(table: &mut [u32; TABLE], party: u32, list: &mut [u32], word: u32) -> Answer {
-    let from = word as usize;
-    if from > list.len() {
-        return Answer::Done(MOST);
+fn serve_from(
+    table: &mut [u32; TABLE],
+    party: u32,
+    list: &mut [u32; LIST],
+    word: u32,
+) -> Result<u32, Status> {
+    match list.get_mut(word as usize..) {
+        Some(lent) => serve(table, party, lent),
+        None => Ok(MOST),
     }
-    serve(table, party, &mut list[from..])
 }
 
-// Makes a call. The ticks of a fire when's wall time are not zero, and do not count.
+// Makes a call that answers one number. The ticks of a fire when's wall time are not zero, and do not count. Any other call is no step's.
 fn call(
-    number: u32,
+    call: CallNumber,
+    step: Step,
     party: u32,
-    a: u32,
-    b: u32,
-    c: u32,
-    d: u32,
-    e: u32,
     table: &mut [u32; TABLE],
     list: &mut [u32; LIST],
-) -> Answer {
-    match number {
-        LAY_OUT => lay_out(table, a, b, c),
-        CREATE => create(table, party, a),
-        IDENT => ident(table, party, a),
-        CANCEL => cancel(table, party, a),
-        DELETE => delete(table, party, a),
-        FIRE_AFTER => fire_after(table, party, a, b, c, d),
-        FIRE_WHEN => fire_when(table, party, a, wall_time(b, c, MOST), d, e),
-        FIRE_EVERY => fire_every(table, party, a, b, c, d),
-        RESET => reset(table, party, a),
-        TICKS_LEFT => ticks_left(table, party, a),
-        TICK => tick(table, list),
-        NEXT_DUE => next_due::next_due(table),
-        INITIATE_SERVER => initiate_server(table),
-        SERVER_FIRE_AFTER => server_fire_after(table, party, a, b, c, d),
-        SERVER_FIRE_WHEN => server_fire_when(table, party, a, wall_time(b, c, MOST), d, e),
-        SERVE => serve_from(table, party, list, a),
-        CALLER => Answer::Done(a),
-        CHANGE_WORD => {
-            table[a as usize % TABLE] = b;
-            Answer::Done(b)
+) -> Result<u32, Status> {
+    let Step { a, b, c, d, e, .. } = step;
+    match call {
+        CallNumber::Create => create(table, party, a),
+        CallNumber::Ident => ident(table, party, a),
+        CallNumber::Cancel => cancel(table, party, a),
+        CallNumber::Delete => delete(table, party, a),
+        CallNumber::FireAfter => fire_after(table, party, a, b, c, d),
+        CallNumber::FireWhen => fire_when(table, party, a, wall_time(b, c, MOST), d, e),
+        CallNumber::FireEvery => fire_every(table, party, a, b, c, d),
+        CallNumber::Reset => reset(table, party, a),
+        CallNumber::TicksLeft => ticks_left(table, party, a),
+        CallNumber::Tick => tick(table, list),
+        CallNumber::NextDue => next_due::next_due(table),
+        CallNumber::InitiateServer => initiate_server(table),
+        CallNumber::ServerFireAfter => server_fire_after(table, party, a, b, c, d),
+        CallNumber::ServerFireWhen => {
+            server_fire_when(table, party, a, wall_time(b, c, MOST), d, e)
         }
-        _ => short_call(number, party, a, b, c, table),
+        CallNumber::Serve => serve_from(table, party, list, a),
+        CallNumber::SetClock | CallNumber::GetClock | CallNumber::Leap => Ok(MOST),
     }
-}
-
-// Sets the clock, lent a word too few for three slots.
-fn set_short(rt: &impl Print, table: &mut [u32; TABLE], time: WallTime) -> io::Result<()> {
-    let mut list = [0u32; LIST - 1];
-    show_setting(rt, set_clock(table, time, &mut list))
-}
-
-// Leaps, lent a word too few for three slots.
-fn leap_short(rt: &impl Print, table: &mut [u32; TABLE], ticks: u32) -> io::Result<()> {
-    let mut list = [0u32; LIST - 1];
-    show_progress(rt, leap(table, ticks, &mut list))
 }
 
 // Takes a step and prints what comes of it.
@@ -228,86 +192,88 @@ fn play(
     table: &mut [u32; TABLE],
     list: &mut [u32; LIST],
 ) -> io::Result<()> {
-    let number = step.number;
-    match number {
-        NONE => Ok(()),
-        SET_CLOCK => show_setting(
-            rt,
-            set_clock(table, wall_time(step.a, step.b, step.c), list),
-        ),
-        SHORT_SET_CLOCK => set_short(rt, table, wall_time(step.a, step.b, step.c)),
-        LEAP => show_progress(rt, leap(table, step.a, list)),
-        SHORT_LEAP => leap_short(rt, table, step.a),
-        GET_CLOCK => show_reading(rt, get_clock(table)),
-        PRINT_LIST => print_list(rt, list, step.a),
-        _ => show(
-            rt,
-            call(
-                number, party, step.a, step.b, step.c, step.d, step.e, table, list,
-            ),
-        ),
-    }
-}
-
-// Where a byte stands, from a place on; the end where it does not.
-fn find(text: &[u8], from: usize, byte: u8) -> usize
-    requires { from ≤ length text.now }
-    ensures { (from ≤ result) × (result ≤ length text.now) }
-{
-    let mut i = from;
-    while i < text.len() {
-        if text[i] == byte {
-            return i;
+    let Step { a, b, c, .. } = step;
+    let mut short = [0u32; LIST - 1];
+    let mut cut = [0u32; TABLE - 1];
+    cut[SLOT_COUNT] = 3;
+    cut[TICKS_PER_SECOND] = 10;
+    match step.action {
+        Action::Nothing => Ok(()),
+        Action::LayOut => show(rt, one(lay_out(table, a, b, c))),
+        Action::Call(CallNumber::SetClock) => {
+            show(rt, setting(set_clock(table, wall_time(a, b, c), list)))
         }
-        i += 1;
+        Action::Call(CallNumber::GetClock) => show(rt, reading(get_clock(table))),
+        Action::Call(CallNumber::Leap) => show(rt, progress(leap(table, a, list))),
+        Action::Call(number) => show(rt, one(call(number, step, party, table, list))),
+        Action::PrintList => print_list(rt, list, a),
+        Action::ChangeWord => {
+            table[a as usize % TABLE] = b;
+            show(rt, one(Ok(b)))
+        }
+        Action::Caller => show(rt, one(Ok(a))),
+        Action::ShortLayOut => show(rt, one(lay_out(&mut cut, a, b, c))),
+        Action::ShortCall(CallNumber::Create) => show(rt, one(create(&mut cut, party, a))),
+        Action::ShortCall(CallNumber::NextDue) => show(rt, one(next_due::next_due(&cut))),
+        Action::ShortCall(CallNumber::Tick) => show(rt, one(tick(table, &mut short))),
+        Action::ShortCall(CallNumber::SetClock) => {
+            show(
+                rt,
+                setting(set_clock(table, wall_time(a, b, c), &mut short)),
+            )
+        }
+        Action::ShortCall(CallNumber::Leap) => show(rt, progress(leap(table, a, &mut short))),
+        Action::ShortCall(_) | Action::Unknown => show(rt, one(Ok(MOST))),
     }
-    i
 }
 
 // A number with a decimal digit more, in ASCII. What is past 32 bits is lost.
 fn with_digit(number: u32, digit: u8) -> u32 {
-    ((number as u64 * 10 + digit as u64 % 16) % 4294967296) as u32
+    number.wrapping_mul(10).wrapping_add(u32::from(digit % 16))
+}
+
+// The number of a word.
+fn number_of(word: &[u8]) -> u32 {
+    word.iter()
+        .fold(0, |number, digit| with_digit(number, *digit))
 }
 
 // The number that stands so many spaces behind the bar; 0 where none does.
-fn word(line: &[u8], bar: usize, spaces: u32) -> u32 {
-    let mut value = 0;
-    let mut left = spaces;
-    let mut i = bar;
-    while i < line.len() {
-        if line[i] == b' ' {
-            if left == 0 {
-                return value;
-            }
-            left -= 1;
-        } else if left == 0 {
-            value = with_digit(value, line[i]);
-        }
-        i += 1;
-    }
-    value
+fn word(step: &[u8], spaces: usize) -> u32 {
+    step.split(|byte| *byte == b' ')
+        .nth(spaces)
+        .map_or(0, number_of)
 }
 
 // Copies a line up to its bar, and reads the step behind it.
 fn step_of(rt: &impl Print, line: &[u8]) -> io::Result<Step> {
-    let bar = find(line, 0, b'|');
-    rt.write_all(&line[0..bar])?;
+    let bar = line
+        .iter()
+        .position(|byte| *byte == b'|')
+        .unwrap_or(line.len());
+    let (label, step) = line.split_at(bar);
+    rt.write_all(label)?;
     Ok(Step {
-        number: word(line, bar, 1),
-        a: word(line, bar, 2),
-        b: word(line, bar, 3),
-        c: word(line, bar, 4),
-        d: word(line, bar, 5),
-        e: word(line, bar, 6),
+        action: action_of(word(step, 1)),
+        a: word(step, 2),
+        b: word(step, 3),
+        c: word(step, 4),
+        d: word(step, 5),
+        e: word(step, 6),
     })
 }
 
 // Who calls after a step.
 fn caller_after(step: Step, party: u32) -> u32 {
-    if step.number == CALLER {
-        return step.a;
+    match step.action {
+        Action::Caller => step.a,
+        _ => party,
     }
-    party
+}
+
+// A line ends here.
+fn is_newline(byte: &u8) -> bool {
+    *byte == b'\n'
 }
 
 // Runs the lines of a text, each with the newline before it.
@@ -315,18 +281,19 @@ fn run(rt: &impl Print, text: &[u8]) -> io::Result<()> {
     let mut table = [0u32; TABLE];
     let mut list = [0u32; LIST];
     let mut party = PARTY_1;
-    let mut at = 0;
-    while at < text.len() {
-        let end = find(text, at + 1, b'\n');
-        let step = step_of(rt, &text[at..end])?;
+    for (n, line) in text.split(is_newline).enumerate() {
+        if n > 0 {
+            println!(rt; "")?;
+        }
+        let step = step_of(rt, line)?;
         party = caller_after(step, party);
         play(rt, step, party, &mut table, &mut list)?;
-        at = end;
     }
     Ok(())
 }
 
-// Reads until the buffer is full or the input at its end, and gives how many bytes there were.
+// Reads until the buffer is full or the input at its end, and gives how many bytes there were. (Each turn goes on by as many as came, so it is no `for`; std's
+// `read_to_end` is of a Vec, on a heap; `replay` has its own, since no library here reads.)
 fn read_full(reader: &mut impl Read, buffer: &mut [u8]) -> io::Result<usize>
     ensures { IfOk result (λ n. n ≤ length buffer.new) }
 {

@@ -21,11 +21,11 @@ use Rattle.laws.proofs.Chains.{InSlots, in-slots}
 use Rattle.laws.proofs.ReadBack.{slots_length, over-over}
 use Rattle.laws.proofs.Steps.{length-fire, chained-fire}
 use Rattle.links.proofs.NextState.{Next, next_start, next-read, next-holds, next-then}
-use Rattle.firing.specs.Lists.{Room, Tally, off_all, due_listed, TakesOff, Fires}
+use Rattle.firing.specs.Lists.{Tally, off_all, due_listed, TakesOff, Fires}
 use Rattle.going_on.specs.GoingBack.{went_back, back_all, slots_in, Entries}
-use Rattle.links.specs.Places.{last_slot}
+use Rattle.links.specs.Places.{last_slot, IsSlot}
 use Rattle.firing.proofs.TwoRounds.{slots_of, length-off_all, chained-between, two-rounds, one-round}
-use Rattle.firing.proofs.TakingOff.{taking-start, taking-none, taking-front, taking-later}
+use Rattle.firing.proofs.TakingOff.{Space, taking-start, taking-none, taking-front, taking-later}
 use Rattle.firing.proofs.Entries.{slots-written}
 
 -- what holds of all slots that entries name
@@ -51,7 +51,7 @@ back-queue (i ∷ is) s =
 pub fires-list-length : {k : Chain} {t l : List ℕ} {limit from n end : ℕ} {t' l' : List ℕ} → Fires k t l limit from n end t' l' → length l' ≡ length l
 fires-list-length f = ap length f.entries ∙ simp length-sets
 
-module _ {k : Chain} {t l : List ℕ} {limit from end : ℕ} (r : Room k t l limit from end) where
+module _ {k : Chain} {t l : List ℕ} {limit from end : ℕ} (r : Space k t l limit from end) where
   abbrev ws : List Link
   ws = due k limit (read t)
 
@@ -92,7 +92,6 @@ module _ {k : Chain} {t l : List ℕ} {limit from end : ℕ} (r : Room k t l lim
         let size : slot_count t₁ ≡ slot_count t =
         sym (slots_length t₁) ∙ ap (λ (s : State). length s.slots) (next-read off_next) ∙ length-off_all ws (read t) ∙ slots_length t in
         record {
-          holds = next-holds off_next;
           order = omega (arith, f.count);
           few = omega (arith, f.count, r.few, fewer);
           fits = omega (arith, f.count, r.fits, same, fewer);
@@ -133,12 +132,13 @@ module _ {k : Chain} {t l : List ℕ} {limit from end : ℕ} (r : Room k t l lim
     }
 
 -- none fires where the chain is empty, or its first timer is not due
-module _ {k : Chain} {t l : List ℕ} {limit from end : ℕ} (r : Room k t l limit from end) {i : ℕ} (first : i ≡ word t (head_word k)) where
+module _ {k : Chain} {t l : List ℕ} {limit from end : ℕ} (r : Space k t l limit from end) {i : ℕ} (first : i ≡ word t (head_word k)) where
   pub fires-none : i ≡ 0 → Fires k t l limit from from end t l
   fires-none e = fires-off r (taking-none (taking-start r first) e) refl
 
-  pub first-high : i ≢ 0 → 8 * i + 10 ≤ length t
-  first-high some = omega (arith, (taking-front (taking-start r first) some).high, r.holds.long)
+  pub first-slot : i ≢ 0 → IsSlot t i
+  first-slot some =
+      let at = taking-front (taking-start r first) some in record { low = at.low; high = omega (arith, at.high, slots_length t) }
 
   pub fires-later : i ≢ 0 → {w : ℕ} → w ≡ wait_of t i → limit < w → Fires k t l limit from from end t l
   fires-later some is p = fires-off r (taking-later (taking-start r first) some is p) refl

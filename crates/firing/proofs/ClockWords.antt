@@ -1,6 +1,6 @@
 -- The clock in the words of a table: words 1 to 4 are the clock's, and no other word depends on it, so that a store to them is the state with
 -- another clock; and which clock a step gives. Assumes nothing.
-use mathlib.Core.Path.{◌≡◌, sym, ap, ap₂, ◌∙◌}
+use mathlib.Core.Path.{◌≡◌, refl, sym, ap, ap₂, ◌∙◌}
 use mathlib.Core.Logic.{◌≢◌}
 use Prim.Native.Nat.{ℕ, suc, ◌+◌, ◌*◌, ◌≤◌, ◌<◌}
 use native.Mathlib.Omega.{arith}
@@ -15,6 +15,8 @@ use Rattle.model.specs.Directives.{clock_at, clock_step}
 use Rattle.model.specs.Words.{first, all_slots, written_over, read, ticks_per_second, clock_set, seconds, ticks_into}
 use Rattle.laws.proofs.WellFormed.{Holds}
 use Rattle.laws.proofs.ClockSteps.{clock-unset}
+use Rattle.laws.proofs.Steps.{chained-with-clock}
+use Rattle.links.proofs.NextState.{next_start, next-holds, next-then}
 use Rattle.links.proofs.Storing.{same-slots}
 
 -- ---- the words
@@ -43,9 +45,19 @@ module _ (t : List ℕ) (s : State) (is : written_over s t ≡ t) (second into :
 -- ---- what the code leaves
 
 module _ (t : List ℕ) (h : Holds t (read t)) where
+  -- the chains stay in order
+  clock_keeps : (c : Clock) {u : List ℕ} → u ≡ written_over (with_clock (read t) c) t → Holds u (read u)
+  clock_keeps c e = next-holds (next-then (next_start h) (λ s. with_clock s c) (chained-with-clock (read t) c h.chained) refl e)
+
   pub clock-set : (second into : ℕ)
       → set (set (set t 2 1) 3 second) 4 into ≡ written_over (with_clock (read t) (clock_at (read t).clock second into)) t
   clock-set second into = clock-placed t (read t) h.is second into
+
+  pub set_keeps : (second into : ℕ) → Holds (set (set (set t 2 1) 3 second) 4 into) (read (set (set (set t 2 1) 3 second) 4 into))
+  set_keeps second into = clock_keeps (clock_at (read t).clock second into) (clock-set second into)
+
+  pub step_keeps : {u : List ℕ} → u ≡ written_over (with_clock (read t) (clock_step (read t).clock)) t → Holds u (read u)
+  step_keeps e = clock_keeps (clock_step (read t).clock) e
 
   stands : clock_step (read t).clock ≡ (read t).clock → t ≡ written_over (with_clock (read t) (clock_step (read t).clock)) t
   stands e = sym (ap (λ (c : Clock). written_over (with_clock (read t) c) t) e ∙ h.is)

@@ -1,8 +1,8 @@
 -- Some ticks nearer: the wait of the first interval timer falls by so many, and since those behind it count from it, so do all ticks left. The
 -- words of the new table are compared with those of the state so many ticks nearer, one by one. Assumes nothing.
-use mathlib.Core.Path.{◌≡◌, refl, sym, ap, ◌∙◌, subst}
+use mathlib.Core.Path.{◌≡◌, refl, sym, ap, ap₂, ◌∙◌, subst}
 use mathlib.Core.Logic.{◌≢◌}
-use Prim.Native.Nat.{ℕ, ◌+◌, ◌-◌, ◌*◌, ◌≤◌, ◌<◌}
+use Prim.Native.Nat.{ℕ, zero, suc, ◌+◌, ◌-◌, ◌*◌, ◌≤◌, ◌<◌}
 use native.Mathlib.Omega.{arith}
 use mathlib.Core.Bool.{cond}
 use mathlib.Core.List.{List, [], ◌∷◌, map}
@@ -13,11 +13,14 @@ use borrow.Author.Tests.{eqb-true, eqb-false}
 use Rattle.model.specs.declared.Chain.TheVariants.{ByTicks, ByDate, Queue}
 use Rattle.model.specs.Lists.{All}
 use Rattle.model.specs.State.{Link, State, slot_at, with_chain}
+use Rattle.model.specs.Directives.{nearer, closer}
 use Rattle.model.specs.Words.{first, next_in, previous_in, wait_in, slot_words, write, written_over, word, field, read, first_ticking, wait_of}
 use Rattle.laws.proofs.ListLaws.{cases}
 use Rattle.laws.proofs.EachPlace.{end, ◌&◌, each_at}
-use Rattle.laws.proofs.WellFormed.{Holds}
+use Rattle.laws.proofs.WellFormed.{Chained, Holds}
 use Rattle.laws.proofs.StateWords.{head_words, Spelled, holds_spelled, spelled-over}
+use Rattle.laws.proofs.Steps.{chained-nearer}
+use Rattle.links.proofs.NextState.{next_start, next-holds, next-then}
 use Rattle.firing.specs.Nearer.{closer_by, nearer_by, Nearable}
 use Rattle.firing.proofs.Heads.{Front, no_front}
 
@@ -115,23 +118,45 @@ module _ (n : ℕ) (t : List ℕ) (s : State) (h : Holds t s) (w : Link) (ws : L
       ∙ ap (λ (v : List ℕ). written_over (nearer_by n s) v) is
       ∙ ap (write (nearer_by n s)) (drop-set-lt m t (2 + 8 * w.slot + 3) (wait_of t w.slot - n) (omega arith))
 
+-- ---- the chains stay in order
+
+pub closer-none : (l : List Link) → map (closer_by 0) l ≡ l
+closer-none [] = refl
+closer-none (w ∷ ws) =
+    let same : w.wait - 0 ≡ w.wait = omega arith in
+    ap₂ {C = List Link} (λ (n : ℕ) r. record { slot = w.slot; wait = n } ∷ r) same (closer-none ws)
+
+pub closer-more : (m : ℕ) (l : List Link) → map (closer_by m) (map closer l) ≡ map (closer_by (suc m)) l
+closer-more m [] = refl
+closer-more m (w ∷ ws) =
+    let same : w.wait - 1 - m ≡ w.wait - suc m = omega arith in
+    ap₂ {C = List Link} (λ (n : ℕ) r. record { slot = w.slot; wait = n } ∷ r) same (closer-more m ws)
+
+pub chained-by : (m : ℕ) (s : State) → Chained s → Chained (nearer_by m s)
+chained-by zero s h = subst Chained (sym (ap (λ (l : List Link). with_chain ByTicks s s.slots l) (closer-none s.ticking))) h
+chained-by (suc m) s h =
+    subst Chained (ap (with_chain ByTicks s s.slots) (closer-more m s.ticking)) (chained-by m (nearer s) (chained-nearer s h))
+
 -- ---- a table whose chains are in order
 
-module _ (t : List ℕ) (n : ℕ) (h : Nearable t n) where
+module _ (t : List ℕ) (n : ℕ) (o : Holds t (read t)) (h : Nearable t n) where
   pub nearer-none : first_ticking t ≡ 0 → t ≡ written_over (nearer_by n (read t)) t
   nearer-none e =
       sym (ap (λ (c : List Link). written_over (with_chain ByTicks (read t) (read t).slots c) t)
-      (ap (map (closer_by n)) none ∙ sym none) ∙ h.holds.is)
+      (ap (map (closer_by n)) none ∙ sym none) ∙ o.is)
     where
       none : (read t).ticking ≡ []
-      none = no_front ByTicks h.holds refl e
+      none = no_front ByTicks o refl e
 
   module _ {i : ℕ} (a : Front ByTicks t i) where
     pub first-waits : n ≤ wait_of t i
-    first-waits = omega (arith, a.wait, (subst (All (λ v. n ≤ v.wait)) a.whole h.far).0)
+    first-waits = omega (arith, a.wait, (subst (All (λ v. n ≤ v.wait)) a.whole h).0)
 
     pub nearer-some : {u : List ℕ} → u ≡ set t (2 + 8 * i + 3) (wait_of t i - n) → u ≡ written_over (nearer_by n (read t)) t
     nearer-some {u} e =
-        lowered n t (read t) h.holds a.entry a.back a.whole h.far
+        lowered n t (read t) o a.entry a.back a.whole h
         (omega (arith, a.low, a.slot)) (omega (arith, a.high, a.slot)) u
         (e ∙ ap (λ (j : ℕ). set t (2 + 8 * j + 3) (wait_of t j - n)) a.slot)
+
+  pub nearer_keeps : {u : List ℕ} → u ≡ written_over (nearer_by n (read t)) t → Holds u (read u)
+  nearer_keeps e = next-holds (next-then (next_start o) (nearer_by n) (chained-by n (read t) o.chained) refl e)

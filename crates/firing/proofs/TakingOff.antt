@@ -26,7 +26,7 @@ use Rattle.laws.proofs.Slots.{Memo, memo}
 use Rattle.laws.proofs.StateWords.{length_over}
 use Rattle.laws.proofs.ReadBack.{slots_length, slot_read, over-over}
 use Rattle.links.proofs.NextState.{Next, next_start, next-read, next-holds, next-then}
-use Rattle.links.specs.Places.{last_slot, InTable}
+use Rattle.links.specs.Places.{last_slot}
 use Rattle.links.proofs.LinkInMiddle.{last-slot}
 use Rattle.going_on.specs.Queueing.{queued, Queues}
 use Rattle.firing.specs.Lists.{EndsAt, Room, ComesOff, CameOff, Turns, Tally, tally_of, Turned, off_one, off_all, is_periodic_at, due_listed, TakesOff}
@@ -63,6 +63,18 @@ not-above k apart n w = leb-true n 11 (ap (λ (b : Bool). cond b (leb n 11) true
     each ByDate e = on-numbers (λ m x. cond (is_in ByDate x.chain) (leb m 11) true) (λ _ _. true) refl (λ m _. refl) n
     each Queue e = clash e
 
+-- room, on a table whose chains are in order
+pub record Space (k : Chain) (t list : List ℕ) (limit from end : ℕ) : Type 0 where
+  pub holds : Holds t (read t)
+  pub none_left : k ≡ ByTicks → limit ≡ 0
+  pub waits : same_chain Queue k ≡ false
+  pub last : EndsAt t end
+  pub fits : 3 * (from + length (due k limit (read t))) ≤ length list
+  pub few : from + length (due k limit (read t)) < 256
+
+pub space : {k : Chain} {t l : List ℕ} {limit from end : ℕ} → Holds t (read t) → Room k t l limit from end → Space k t l limit from end
+space h r = record { holds = h; none_left = r.none_left; waits = r.waits; last = r.last; fits = r.fits; few = r.few }
+
 -- ---- none is due
 
 none-due : (k : Chain) (t l : List ℕ) (limit n end i : ℕ) (b : Bool) → Holds t (read t) → EndsAt t end → All (λ w. limit < w.wait) (chain_of k (read t))
@@ -80,7 +92,7 @@ none-due k t l limit n end i b h last late =
 
 -- ---- one turn: the first link is due, and comes off
 
-module _ {k : Chain} {t l : List ℕ} {limit n end i : ℕ} (r : Room k t l limit n end) (a : Front k t i) (low : a.entry.wait ≤ limit) where
+module _ {k : Chain} {t l : List ℕ} {limit n end i : ℕ} (r : Space k t l limit n end) (a : Front k t i) (low : a.entry.wait ≤ limit) where
   -- its words
   slot_is : slot_at (read t).slots a.entry.slot ≡ slot_from t i
   slot_is = ap (slot_at (read t).slots) (sym a.slot) ∙ slot_read t i a.low (omega (arith, a.high, slots_length t))
@@ -118,13 +130,10 @@ module _ {k : Chain} {t l : List ℕ} {limit n end i : ℕ} (r : Room k t l limi
       ap (keep (λ w. leb w.wait limit)) a.whole
       ∙ rw (le-leb a.entry.wait limit low) (ap {B = List Link} (λ c. a.entry ∷ keep (λ w. leb w.wait limit) c) (sym chain-after))
 
-  in_table : InTable t i
-  in_table = record { holds = r.holds; low = a.low; high = omega (arith, a.high, slots_length t) }
-
   pub turns : Turns k t l i n end
   turns = record {
     comes = record {
-      in_table = in_table;
+      slot = record { low = a.low; high = omega (arith, a.high, slots_length t) };
       is = refl;
       waits = waits-here;
       first = a.previous;
@@ -233,7 +242,7 @@ module _ {k : Chain} {t l : List ℕ} {limit n end i : ℕ} (r : Room k t l limi
         cases (leb 10 kind) (λ f. ap (λ (c : Tally). c.front) (e.queues (leb-true 10 kind f)).2) (λ f. ap (λ (c : Tally). c.front) (e.lists (leb-false 10 kind f)).1)
         ∙ a.next ∙ sym (head_of k (next-holds (next off-is)) ∙ ap first (ap (chain_of k) (next-read (next off-is)) ∙ chain-after))
 
-    pub room_next : Room k t' l' limit c'.count c'.end
+    pub room_next : Space k t' l' limit c'.count c'.end
     room_next =
         cases (leb 10 kind)
         (λ f.
@@ -301,11 +310,11 @@ module _ {k : Chain} {t l : List ℕ} {limit n end i : ℕ} (r : Room k t l limi
 
 -- what is left to do from the words t and l, with these counts, is what is left from the start
 pub record Taking (k : Chain) (t₀ l₀ : List ℕ) (limit from : ℕ) (t l : List ℕ) (c : Tally) : Type 0 where
-  pub room : Room k t l limit c.count c.end
+  pub room : Space k t l limit c.count c.end
   pub here : c.front ≡ word t (head_word k)
   pub rest : (m : Tally) (t' l' : List ℕ) → TakesOff k t l limit c.count c.periodic m t' l' → TakesOff k t₀ l₀ limit from false m t' l'
 
-module _ {k : Chain} {t l : List ℕ} {limit from end : ℕ} (r : Room k t l limit from end) where
+module _ {k : Chain} {t l : List ℕ} {limit from end : ℕ} (r : Space k t l limit from end) where
   pub taking-start : {i : ℕ} → i ≡ word t (head_word k) → Taking k t l limit from t l (tally_of from false end i)
   taking-start e = record { room = r; here = e; rest = λ m t' l' f. f }
 
@@ -364,7 +373,7 @@ module _ {k : Chain} {t l : List ℕ} {i n end : ℕ} (h : Turns k t l i n end) 
   module _ (ten : 10 ≤ kind) where
     pub turn-queues : Queues k t i kind end
     turn-queues = record {
-      in_table = h.comes.in_table;
+      slot = h.comes.slot;
       is = is;
       waits = ap (waits_in k) is ∙ h.comes.waits;
       low = ten;
@@ -382,7 +391,7 @@ module _ {k : Chain} {t l : List ℕ} {i n end : ℕ} (h : Turns k t l i n end) 
   module _ (less : kind < 10) where
     pub turn-lists : ComesOff k t l i kind n
     turn-lists = record {
-      in_table = h.comes.in_table;
+      slot = h.comes.slot;
       is = is;
       waits = ap (waits_in k) is ∙ h.comes.waits;
       first = h.comes.first;

@@ -69,7 +69,6 @@ module _ (t list : List ℕ) (ok : sound t ≡ true) (long : 3 * slot_count t �
       let same = ap (λ (z : State). length (due k limit z)) (next-read x) in
       let some = length-keep (λ w. leb w.wait limit) (chain_of k s) in
       record {
-        holds = next-holds x;
         none_left = none;
         waits = apart;
         last = at ∙ ap (λ (z : State). last_slot 0 z.queue) (sym (next-read x));

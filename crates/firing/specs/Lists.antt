@@ -10,18 +10,16 @@ use Rattle.model.specs.Directives.{stopped, idled, due, fire, without_server, Ef
 use Rattle.model.specs.Words.{read, written_over, kind_of, wait_of, routine_of, data_of, next_of, previous_of}
 use Rattle.model.specs.Outcome.{entry_words, written}
 use Rattle.laws.proofs.KindLaws.{periodic}
-use Rattle.laws.proofs.WellFormed.{Holds}
-use Rattle.links.specs.Places.{last_slot, InTable}
+use Rattle.links.specs.Places.{last_slot, IsSlot}
 use Rattle.going_on.specs.Queueing.{queued}
 
 -- slot `end` is the last of the queue, 0 where that is empty
 abbrev pub EndsAt : List ℕ → ℕ → Type 0
 EndsAt t end = end ≡ last_slot 0 (read t).queue
 
--- the chains are in order, chain k is not the queue, and the list has room for those due, written from entry `from` on; of those that wait for ticks
+-- chain k is not the queue, and the list has room for those due, written from entry `from` on; of those that wait for ticks
 -- they are due with none left
 pub record Room (k : Chain) (t list : List ℕ) (limit from end : ℕ) : Type 0 where
-  pub holds : Holds t (read t)
   pub none_left : k ≡ ByTicks → limit ≡ 0
   pub waits : same_chain Queue k ≡ false
   pub last : EndsAt t end
@@ -30,7 +28,7 @@ pub record Room (k : Chain) (t list : List ℕ) (limit from end : ℕ) : Type 0 
 
 -- slot i, of that kind, is the first of chain k and due, and the list has room for entry n
 pub record ComesOff (k : Chain) (t list : List ℕ) (i kind n : ℕ) : Type 0 where
-  pub in_table : InTable t i
+  pub slot : IsSlot t i
   pub is : kind ≡ kind_of t i
   pub waits : waits_in k kind ≡ true
   pub first : previous_of t i ≡ 0

@@ -4,7 +4,6 @@ use Rattle.model.specs.declared.Chain.TheVariants.{ByTicks}
 use Rattle.model.specs.Lists.{All}
 use Rattle.model.specs.State.{Link, State, with_chain}
 use Rattle.model.specs.Words.{read}
-use Rattle.laws.proofs.WellFormed.{Holds}
 
 -- every interval timer comes m ticks nearer
 abbrev pub closer_by : ℕ → Link → Link
@@ -13,7 +12,6 @@ closer_by m w = record { slot = w.slot; wait = w.wait - m }
 abbrev pub nearer_by : ℕ → State → State
 nearer_by m s = with_chain ByTicks s s.slots (map (closer_by m) s.ticking)
 
--- the chains are in order, and no interval timer is nearer than m ticks
-pub record Nearable (t : List ℕ) (m : ℕ) : Type 0 where
-  pub holds : Holds t (read t)
-  pub far : All (λ w. m ≤ w.wait) (read t).ticking
+-- no interval timer is nearer than m ticks
+abbrev pub Nearable : List ℕ → ℕ → Type 0
+Nearable t m = All (λ w. m ≤ w.wait) (read t).ticking

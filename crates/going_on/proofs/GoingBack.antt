@@ -19,9 +19,10 @@ use Rattle.laws.proofs.ListLaws.{cases, count-place}
 use Rattle.laws.proofs.WellFormed.{times_in, Chained, Holds}
 use Rattle.laws.proofs.StateWords.{absent, length_over}
 use Rattle.laws.proofs.ReadBack.{slots_length, slot_read}
-use Rattle.links.specs.Places.{InTable, IdleInTable}
+use Rattle.links.specs.Places.{InTable}
 use Rattle.links.proofs.Extracting.{in-none}
 use Rattle.links.proofs.NextState.{Next, next_start, next-read, next-holds, next-then}
+use Rattle.links.proofs.Restart.{in_table}
 use Rattle.links.proofs.WalkToPlace.{zero-wait}
 use Rattle.going_on.proofs.WaitingAgain.{again-chained, again-length}
 use Rattle.going_on.specs.GoingBack.{waits_again, Again, went_back, back_all, slots_in, Entries, Marked, Sought, GoesBack, WentBack}
@@ -57,8 +58,8 @@ module _ {t : List ℕ} {i : ℕ} (at : InTable t i) where
     went-is : went_back (read t) i ≡ waits_again (read t) i
     went-is = ap (λ (b : Bool). cond b (waits_again (read t) i) (read t)) (eq-eqb (slot_at (read t).slots i).kind 7 (kind-is ∙ seven))
 
-    idle-here : IdleInTable t i
-    idle-here = record { in_table = at; idle = λ k. ap (waits_in k) seven ∙ nowhere k }
+    idle-here : (k : Chain) → waits_in k (kind_of t i) ≡ false
+    idle-here k = ap (waits_in k) seven ∙ nowhere k
       where
         nowhere : (k : Chain) → waits_in k 7 ≡ false
         nowhere ByTicks = refl
@@ -74,9 +75,9 @@ module _ {t : List ℕ} {i : ℕ} (at : InTable t i) where
         let s = read t in
         let n = (slot_at s.slots i).interval in
         let new : Link = record { slot = i; wait = n } in
-        let none = in-none t i at idle-here.idle ByTicks in
+        let none = in-none t i at idle-here ByTicks in
         let now : (read v).ticking ≡ place (λ w. w.wait) new s.ticking =
-        ap (λ (z : State). z.ticking) (next-read (next-then (next_start at.holds) (λ z. waits_again z i) (again-chained t i idle-here) (again-length t i idle-here) e)) in
+        ap (λ (z : State). z.ticking) (next-read (next-then (next_start at.holds) (λ z. waits_again z i) (again-chained t i at idle-here) (again-length t i at idle-here) e)) in
         rw own (record {
           there = λ _. rw now (omega (arith, count-place (λ w. eqb w.slot i) (λ w. w.wait) new s.ticking, ap {B = ℕ} (λ (b : Bool). cond b 1 0) (eq-eqb i i refl)));
           left = is ∙ sym (ap (λ (x : Slot). x.interval) (slot_read t i at.low at.high))
@@ -88,7 +89,7 @@ module _ {t : List ℕ} {i : ℕ} (at : InTable t i) where
     again-from {slot} {ticks} {interval} {slot'} {ticks'} m is f =
         let marked = sought f.from in
         record {
-          idle = idle-here;
+          idle = record { slot = record { low = at.low; high = at.high }; idle = idle-here };
           from = record { holds = at.holds; there = marked.there; due = omega arith };
           sum = omega (arith, marked.left, f.due, is);
         }
@@ -105,11 +106,15 @@ module _ {t : List ℕ} {i : ℕ} (at : InTable t i) where
       cases (eqb (slot_at (read t).slots i).kind 7)
       (λ f.
       let idle = idle-here at (sym (kind-is at) ∙ eqb-true (slot_at (read t).slots i).kind 7 f) in
-      rw f (again-chained t i idle, again-length t i idle))
+      rw f (again-chained t i at idle, again-length t i at idle))
       (λ f. rw f (at.holds.chained, refl))
 
   went-next : {t₀ t' : List ℕ} → Next t₀ (read t) t → t' ≡ written_over (went_back (read t) i) t → Next t₀ (went_back (read t) i) t'
   went-next x e = next-then x (λ s. went_back s i) went.0 went.1 e
+
+-- the chains stay in order
+pub went_keeps : {t u : List ℕ} {i : ℕ} → InTable t i → u ≡ written_over (went_back (read t) i) t → Holds u (read u)
+went_keeps at e = next-holds (went-next at (next_start at.holds) e)
 
 -- ---- the loop
 
@@ -122,13 +127,13 @@ pub record Backing (t₀ list : List ℕ) (from n : ℕ) (t : List ℕ) (slot ti
   pub low : from ≤ j
   pub high : j ≤ n
 
-module _ {t₀ list : List ℕ} {from n : ℕ} (h : Entries t₀ list from n) where
+module _ {t₀ list : List ℕ} {from n : ℕ} (o : Holds t₀ (read t₀)) (h : Entries t₀ list from n) where
   pub backing-start : {slot ticks : ℕ} → slot ≡ 0 → ticks ≡ 0 → Backing t₀ list from n t₀ slot ticks from
   backing-start {slot} {ticks} start none = record {
-    next = next_start h.holds;
+    next = next_start o;
     size = refl;
     rest = refl;
-    mark = marks-start t₀ h.holds start none;
+    mark = marks-start t₀ o start none;
     low = omega arith;
     high = h.order;
   }
@@ -137,7 +142,7 @@ module _ {t₀ list : List ℕ} {from n : ℕ} (h : Entries t₀ list from n) wh
     pub backing-length : length t ≡ length t₀
     backing-length =
         ap length b.next.is
-        ∙ length_over (read t) t₀ (omega (arith, h.holds.long, slots_length t, slots_length t₀, b.size))
+        ∙ length_over (read t) t₀ (omega (arith, o.long, slots_length t, slots_length t₀, b.size))
 
     pub backing-end : n ≤ j → t ≡ written_over (back_all (slots_in list from (n - from)) (read t₀)) t₀
     backing-end p =
@@ -153,13 +158,13 @@ module _ {t₀ list : List ℕ} {from n : ℕ} (h : Entries t₀ list from n) wh
         backing-back =
             let named = h.named j b.low more in
             record {
-              in_table = record { holds = next-holds b.next; low = omega (arith, named.0, is); high = omega (arith, named.1, is, b.size) };
+              here = record { low = omega (arith, named.0, is); high = omega (arith, named.1, is, b.size) };
               mark = b.mark;
             }
 
         pub backing-again : {slot' ticks' : ℕ} {t' : List ℕ} → WentBack t i slot' ticks' t' → Backing t₀ list from n t' slot' ticks' (j + 1)
         backing-again {t' = t'} w =
-            let at = backing-back.in_table in
+            let at = in_table (next-holds b.next) backing-back.here in
             let step = went-next at b.next w.table in
             let now : read t' ≡ went_back (read t) i = next-read step in
             let one : j + 1 ≡ suc j = omega arith in

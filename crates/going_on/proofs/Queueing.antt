@@ -17,16 +17,16 @@ use Rattle.model.specs.State.{Slot, Link, State, chain_of, slot_at}
 use Rattle.model.specs.Directives.{stopped, became, fired, idled, inserted}
 use Rattle.model.specs.Words.{written_over, read}
 use Rattle.laws.proofs.ListLaws.{cases}
-use Rattle.laws.proofs.WellFormed.{Chained}
+use Rattle.laws.proofs.WellFormed.{Chained, Holds}
 use Rattle.laws.proofs.Chains.{without-none}
 use Rattle.laws.proofs.ReadBack.{slot_read, over-over}
 use Rattle.laws.proofs.Steps.{stopped-chain, chained-inserted, length_inserted}
 use Rattle.chains.specs.EditedWords.{field_word, inserted_words, Insertable}
-use Rattle.links.specs.Places.{last_slot, up_to, At, FirstStops}
+use Rattle.links.specs.Places.{last_slot, up_to, At, InTable, FirstStops}
 use Rattle.links.proofs.Extracting.{in-slots, times-kind}
 use Rattle.links.proofs.Inserting.{insertable, kind-words}
-use Rattle.links.proofs.NextState.{next-read}
-use Rattle.links.proofs.Restart.{stopped-twice, stopped_at, stop-next, slot-now, idle-now}
+use Rattle.links.proofs.NextState.{next_start, next-read, next-holds, next-then}
+use Rattle.links.proofs.Restart.{in_table, stopped-twice, stopped_at, stop-next, slot-now, still-in, idle-now}
 use Rattle.going_on.specs.Queueing.{queued, Queues}
 
 -- ---- the two kinds
@@ -69,20 +69,21 @@ place-last e (w ∷ ws) h = rw (le-leb w.wait e.wait (omega (arith, h.0))) (ap {
 
 -- ---- a table
 
-module _ {k : Chain} (t : List ℕ) {i kind end : ℕ} (h : Queues k t i kind end) where
+module _ {k : Chain} (t : List ℕ) {i kind end : ℕ} (o : Holds t (read t)) (h : Queues k t i kind end) where
+  here : InTable t i
+  here = in_table o h.slot
+
   kinds : Serving kind
   kinds = serving kind h.low h.high
 
   kind-here : (slot_at (read t).slots i).kind ≡ kind
-  kind-here = ap (λ (x : Slot). x.kind) (slot_read t i h.in_table.low h.in_table.high) ∙ sym h.is
+  kind-here = ap (λ (x : Slot). x.kind) (slot_read t i here.low here.high) ∙ sym h.is
 
   pub queue-stops : FirstStops t k i (kind - 2)
   queue-stops = record {
-    stops = record {
-      in_table = h.in_table;
-      waits = ap (waits_in k) (sym h.is) ∙ h.waits;
-      kind = kinds.idle ∙ ap (λ (n : ℕ). (kind_at n).when_stopped) h.is;
-    };
+    slot = h.slot;
+    waits = ap (waits_in k) (sym h.is) ∙ h.waits;
+    kind = kinds.idle ∙ ap (λ (n : ℕ). (kind_at n).when_stopped) h.is;
     first = h.first;
     due = h.due;
   }
@@ -90,7 +91,7 @@ module _ {k : Chain} (t : List ℕ) {i kind end : ℕ} (h : Queues k t i kind en
   same_queue : chain_of Queue (stopped_at t i) ≡ (read t).queue
   same_queue =
       stopped-chain (read t) i (idled (slot_at (read t).slots i)) Queue
-      ∙ without-none i (read t).queue (times-kind t i h.in_table Queue false (ap (waits_in Queue) (sym h.is) ∙ kinds.waits))
+      ∙ without-none i (read t).queue (times-kind t i here Queue false (ap (waits_in Queue) (sym h.is) ∙ kinds.waits))
 
   -- the state when it is queued, from that in which it has stopped
   abbrev again : State → State
@@ -99,23 +100,23 @@ module _ {k : Chain} (t : List ℕ) {i kind end : ℕ} (h : Queues k t i kind en
   -- u is the table after the stop
   module _ (u : List ℕ) (is : u ≡ written_over (stopped_at t i) t) where
     read-now : read u ≡ stopped_at t i
-    read-now = next-read (stop-next t i h.in_table u is)
+    read-now = next-read (stop-next t i here u is)
 
     last-now : At Queue (read u) 0 end 0
     last-now = record {
       slot = h.last ∙ ap (last_slot 0) (sym (ap (λ (s : State). up_to 0 s.queue) read-now ∙ ap (up_to 0) same_queue
-          ∙ up-to-all (read t).queue (h.in_table.holds.chained.within Queue)));
+          ∙ up-to-all (read t).queue (here.holds.chained.within Queue)));
       word = refl;
     }
 
     pub queue-insertable : Insertable Queue u end i 0
-    queue-insertable = insertable Queue u i (idle-now t i h.in_table u is) 0 end 0 last-now
+    queue-insertable = insertable Queue u i (still-in t i here u is) (idle-now t i here u is).idle 0 end 0 last-now
 
     again-chained : Chained (again (read u))
     again-chained =
-        let idle = idle-now t i h.in_table u is in
-        chained-inserted Queue (read u) idle.in_table.holds.chained i 0 (became (kind + 2) (slot_at (read u).slots i)) idle.in_table.low
-        (in-slots u i idle.in_table) kinds.only refl
+        let there = still-in t i here u is in
+        chained-inserted Queue (read u) there.holds.chained i 0 (became (kind + 2) (slot_at (read u).slots i)) there.low
+        (in-slots u i there) kinds.only refl
 
     pub queue-now : {to : ℕ} {t₁ t₂ : List ℕ} → to ≡ kind + 2 → t₁ ≡ inserted_words Queue u end i 0 → t₂ ≡ set t₁ (field_word i 0) to
         → t₂ ≡ written_over (queued (read t) i) t
@@ -124,9 +125,17 @@ module _ {k : Chain} (t : List ℕ) {i kind end : ℕ} (h : Queues k t i kind en
         let x = slot_at (read t).slots i in
         let y : State → Slot = λ z. became (kind + 2) (slot_at z.slots i) in
         let own : y s ≡ fired x =
-        ap (became (kind + 2)) (slot-now t i h.in_table u is)
+        ap (became (kind + 2)) (slot-now t i here u is)
         ∙ ap (λ (m : ℕ). became m x) (sym (ap (λ (n : ℕ). (kind_at n).when_fired) kind-here ∙ kinds.next)) in
-        kind-words Queue u i (idle-now t i h.in_table u is) 0 end 0 last-now (kind + 2) again-chained put (store ∙ ap (set t₁ (field_word i 0)) e)
+        kind-words Queue u i (still-in t i here u is) (idle-now t i here u is).idle 0 end 0 last-now (kind + 2) again-chained put (store ∙ ap (set t₁ (field_word i 0)) e)
         ∙ ap₂ (λ (z : State) (w : List ℕ). written_over (again z) w) read-now is
         ∙ over-over s (again s) t (length_inserted Queue s i 0 (y s))
         ∙ ap (λ (z : State). written_over (inserted Queue z i 0) t) (stopped-twice (read t) i (idled x) (y s) ∙ ap (stopped (read t) i) own)
+
+    pub queue_keeps : {to : ℕ} {t₁ t₂ : List ℕ} → to ≡ kind + 2 → t₁ ≡ inserted_words Queue u end i 0 → t₂ ≡ set t₁ (field_word i 0) to
+        → Holds t₂ (read t₂)
+    queue_keeps {to} {t₁} {t₂} e put store =
+        let x : State → Slot = λ z. became (kind + 2) (slot_at z.slots i) in
+        next-holds (next-then (next_start (next-holds (stop-next t i here u is))) again again-chained (length_inserted Queue (read u) i 0 (x (read u)))
+        (kind-words Queue u i (still-in t i here u is) (idle-now t i here u is).idle 0 end 0 last-now (kind + 2) again-chained put
+        (store ∙ ap (set t₁ (field_word i 0)) e)))

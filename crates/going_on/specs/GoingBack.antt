@@ -7,8 +7,8 @@ use Rattle.model.specs.Kinds.{waiting_kind}
 use Rattle.model.specs.State.{State, slot_at, wait_at, id_base}
 use Rattle.model.specs.Directives.{stored, became, inserted}
 use Rattle.model.specs.Words.{word, read, written_over, slot_count, interval_of}
-use Rattle.laws.proofs.WellFormed.{times_in, Holds}
-use Rattle.links.specs.Places.{InTable, IdleInTable, From}
+use Rattle.laws.proofs.WellFormed.{times_in}
+use Rattle.links.specs.Places.{IsSlot, IdleInTable, From}
 
 -- an idle periodic timer waits again, for its interval
 abbrev pub waits_again : State → ℕ → State
@@ -36,9 +36,8 @@ abbrev pub slots_in : List ℕ → ℕ → ℕ → List ℕ
 slots_in list from zero = []
 slots_in list from (suc number) = (word list (3 * from) - id_base) ∷ slots_in list (suc from) number
 
--- the chains are in order, and the entries from `from` on, up to n, name slots of the table
+-- the entries from `from` on, up to n, name slots of the table
 pub record Entries (t list : List ℕ) (from n : ℕ) : Type 0 where
-  pub holds : Holds t (read t)
   pub order : from ≤ n
   pub few : n < 256
   pub fits : 3 * n ≤ length list
@@ -55,7 +54,7 @@ pub record Sought (slot ticks interval slot' ticks' : ℕ) : Type 0 where
   pub due : ticks' ≤ interval
 
 pub record GoesBack (t : List ℕ) (i slot ticks : ℕ) : Type 0 where
-  pub in_table : InTable t i
+  pub here : IsSlot t i
   pub mark : Marked t slot ticks
 
 pub record WentBack (t : List ℕ) (i slot ticks : ℕ) (t' : List ℕ) : Type 0 where

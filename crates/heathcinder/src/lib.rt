@@ -8,40 +8,28 @@ ghost use Rattle.model.specs.Calls as call;
 ghost use Rattle.model.specs.Outcome.{outcome_of, outcome, movement};
 ghost use Rattle.heathcinder.specs.Exports.{wall_time};
 
-use answers::{Reading, number_in, reading_numbers, reading_status, status_of};
+use answers::{number_in, reading_numbers, status_of};
 use calendar::WallTime;
+use model::SUCCESSFUL;
 
-// The words of a `struct hc_wall_time`.
-const YEAR: usize = 0;
-
-const MONTH: usize = 1;
-
-const DAY: usize = 2;
-
-const HOUR: usize = 3;
-
-const MINUTE: usize = 4;
-
-const SECOND: usize = 5;
-
-const TICKS: usize = 6;
-
-// The wall time of seven numbers.
+// The wall time of seven numbers, the words of a `struct hc_wall_time`.
 fn wall_time(numbers: &[u32; 7]) -> WallTime
     ensures { result ≡ wall_time numbers.now }
 {
+    let [year, month, day, hour, minute, second, ticks] = *numbers;
     WallTime {
-        year: numbers[YEAR],
-        month: numbers[MONTH],
-        day: numbers[DAY],
-        hour: numbers[HOUR],
-        minute: numbers[MINUTE],
-        second: numbers[SECOND],
-        ticks: numbers[TICKS],
+        year,
+        month,
+        day,
+        hour,
+        minute,
+        second,
+        ticks,
     }
 }
 
-// The calls. Each is the call of that name of `timer`, `starts`, `clock`, `next_due` or `server`, with the same arguments.
+// The calls. Each is the call of that name of `timer`, `starts`, `clock`, `next_due` or `server`, with the same arguments. (Many are alike, and their
+// parameters travel together: each is a name of its own in include/heathcinder.h, with that signature.)
 #[unsafe(no_mangle)]
 pub extern "C" fn hc_lay_out(table: &mut [u32], slots: u32, rate: u32, split: u32) -> u32
     ensures { outcome_of result (0 ∷ []) table.new [] ≡ outcome table.old (call.lay_out slots rate split) }
@@ -168,12 +156,18 @@ pub extern "C" fn hc_set_clock(
 ) -> u32
     ensures { (outcome_of result (count.new ∷ []) table.new fired.new ≡ outcome table.old (call.set_clock (wall_time time.now) fired.old)) × (moved.new ≡ movement table.old (wall_time time.now) fired.old) }
 {
-    let setting = clock::set_clock(table, wall_time(time), fired);
-    let answer = setting.answer;
-    let by = setting.moved;
-    *moved = by;
-    *count = number_in(answer);
-    status_of(answer)
+    match clock::set_clock(table, wall_time(time), fired) {
+        Ok(setting) => {
+            *moved = setting.moved;
+            *count = setting.fired;
+            SUCCESSFUL
+        }
+        Err(refusal) => {
+            *moved = 0;
+            *count = 0;
+            refusal.into()
+        }
+    }
 }
 
 // The zeros of a refusal are written first: to choose between them and the date at the end takes longer.
@@ -183,11 +177,11 @@ pub extern "C" fn hc_get_clock(table: &[u32], time: &mut [u32; 7]) -> u32
 {
     *time = [0; 7];
     let reading = clock::get_clock(table);
-    let Reading::Time(_) = reading else {
-        return reading_status(reading);
+    let Ok(_) = reading else {
+        return status_of(reading);
     };
     *time = reading_numbers(reading);
-    reading_status(reading)
+    status_of(reading)
 }
 
 #[unsafe(no_mangle)]
@@ -250,9 +244,16 @@ pub extern "C" fn hc_leap(
 ) -> u32
     ensures { outcome_of result (count.new ∷ done.new ∷ []) table.new fired.new ≡ outcome table.old (call.leap ticks fired.old) }
 {
-    let progress = clock::leap(table, ticks, fired);
-    let answer = progress.answer;
-    *done = progress.done;
-    *count = number_in(answer);
-    status_of(answer)
+    match clock::leap(table, ticks, fired) {
+        Ok(progress) => {
+            *done = progress.done;
+            *count = progress.fired;
+            SUCCESSFUL
+        }
+        Err(refusal) => {
+            *done = 0;
+            *count = 0;
+            refusal.into()
+        }
+    }
 }

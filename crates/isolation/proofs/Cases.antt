@@ -13,7 +13,7 @@ use Rattle.model.specs.Calls.{Call, create, ident, cancel, delete, fire_after, f
 use Rattle.model.specs.Sound.{header_sound, slot_sound, chain_sound, ticks_sound, dates_sound, queue_sound, sound}
 use Rattle.model.specs.State.{Fired}
 use Rattle.model.specs.Outcome.{status_on, outcome}
-use Rattle.isolation.specs.Isolation.{Caller, bench, party, Made, stays, Seen, seen_in, Isolation}
+use Rattle.isolation.specs.Isolation.{bench, party, Made, stays, Seen, seen_in, Isolation}
 
 -- N 2, T 10, L 1, and the ids of the two slots
 abbrev laid : List ℕ

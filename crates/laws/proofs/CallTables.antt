@@ -1,18 +1,16 @@
 -- The table that an accepted call leaves: it holds the state that the call leaves, and is sound. Assumes nothing.
-use mathlib.Core.Path.{◌≡◌, refl, sym, ap, ◌∙◌}
+use mathlib.Core.Path.{◌≡◌, sym, ap, ◌∙◌}
 use Prim.Native.Nat.{ℕ}
 use native.Mathlib.Omega.{arith}
-use mathlib.Core.Bool.{Bool, true, false, cond}
+use mathlib.Core.Bool.{true, cond}
 use mathlib.Core.List.{List}
-use lib.ListN.{length}
 use Rattle.model.specs.Status.{first_of}
-use Rattle.model.specs.Calls.{Call, lay_out, is_lay_out, is_next_due}
-use Rattle.model.specs.State.{State}
+use Rattle.model.specs.Calls.{Call, lay_out, is_next_due}
 use Rattle.model.specs.Directives.{laid_out, refusals, effect}
 use Rattle.model.specs.Words.{written_over, read}
 use Rattle.model.specs.Sound.{sound}
 use Rattle.model.specs.Outcome.{Outcome, status_on, outcome}
-use Rattle.laws.proofs.ListLaws.{cases, clash}
+use Rattle.laws.proofs.ListLaws.{cases}
 use Rattle.laws.proofs.WellFormed.{Holds}
 use Rattle.laws.proofs.ReadBack.{read_back, over-holds, written-holds}
 use Rattle.laws.proofs.SoundHolds.{sound-holds, sound-well-formed}

@@ -3,14 +3,14 @@
 use mathlib.Core.Path.{◌≡◌, refl, sym, ap, ◌∙◌}
 use Prim.Native.Nat.{ℕ, zero, suc, ◌≤◌}
 use native.Mathlib.Omega.{arith}
-use mathlib.Core.Bool.{Bool, true, false, cond}
+use mathlib.Core.Bool.{Bool, false, cond}
 use mathlib.Core.List.{List, [], ◌∷◌}
 use lib.Dec.{eqb}
 use borrow.Author.Tests.{eqb-true, eqb-false}
 use Rattle.model.specs.Lists.{any}
 use Rattle.model.specs.State.{Slot, Link, slot_at, put_at}
 use Rattle.model.specs.Directives.{fired, fired_all}
-use Rattle.laws.proofs.ListLaws.{cases, clash, any_some}
+use Rattle.laws.proofs.ListLaws.{cases, any_some}
 use Rattle.laws.proofs.Slots.{at_other}
 use Rattle.laws.proofs.WellFormed.{times_in}
 

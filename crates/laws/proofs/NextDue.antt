@@ -9,7 +9,7 @@ use lib.ListN.{length}
 use lib.Dec.{leb, ltb, eqb}
 use borrow.Author.Tests.{leb-true, leb-false, lt-leb, lt-ltb, eq-eqb, eqb-true, eqb-false}
 use Rattle.calendar.specs.Calendar.{all_of}
-use Rattle.model.specs.Lists.{least, keep, any, every, place, All, Sorted}
+use Rattle.model.specs.Lists.{least, keep, any, place, All, Sorted}
 use Rattle.model.specs.Calls.{ticks_left, tick, next_due}
 use Rattle.model.specs.declared.Chain.TheVariants.{ByTicks, ByDate}
 use Rattle.model.specs.Kinds.{waits_in}

@@ -12,7 +12,7 @@ use Rattle.model.specs.Lists.{count, All, Sorted}
 use Rattle.model.specs.declared.Chain.{Chain}
 use Rattle.model.specs.declared.Chain.TheVariants.{ByTicks, ByDate, Queue}
 use Rattle.model.specs.State.{Link, State, chain_of, free, slot_at}
-use Rattle.model.specs.Words.{first, write, written_over, word, head_word, along, accumulated, links_from, links, slot_from, slots_from, read, slot_count, clock_set, ticks_into, wait_of, next_of, previous_of}
+use Rattle.model.specs.Words.{first, write, written_over, word, head_word, along, accumulated, links_from, links, slot_from, slots_from, read, slot_count, clock_set, wait_of, next_of, previous_of}
 use Rattle.laws.proofs.ListLaws.{all_map, all}
 use Rattle.laws.proofs.WellFormed.{times_in, Chained, Holds}
 use Rattle.laws.proofs.Chains.{in-slots, fits}

@@ -8,14 +8,14 @@ use mathlib.Core.Bool.{Bool, true, false, cond, not}
 use mathlib.Core.List.{List, [], ◌∷◌}
 use lib.ListN.{length, get_or, get_or-eq_default}
 use lib.Dec.{leb, ltb, eqb}
-use borrow.Author.Tests.{leb-true, ltb-true, ltb-false, eqb-true, eqb-false, eq-eqb, ne_eqb, le-ltb}
+use borrow.Author.Tests.{leb-true, ltb-true, ltb-false, eqb-true, eq-eqb, ne_eqb, le-ltb}
 use Rattle.model.specs.Lists.{count, every, All, Sorted}
 use Rattle.model.specs.declared.Chain.{Chain}
 use Rattle.model.specs.declared.Chain.TheVariants.{ByTicks, ByDate, Queue}
 use Rattle.model.specs.Kinds.{kind_at, linked, waits_in}
 use Rattle.model.specs.State.{Slot, Link, chain_of, free, slot_at}
 use Rattle.calendar.specs.Calendar.{all_of, last_second}
-use Rattle.model.specs.Words.{first, word, head_word, along, accumulated, links_from, links, slot_from, read, slot_count, ticks_per_second, clock_set, seconds, ticks_into, first_ticking, first_dated, server_initiated, kind_of, name_of, interval_of, wait_of, routine_of, data_of, next_of, previous_of, party_split}
+use Rattle.model.specs.Words.{first, word, head_word, along, accumulated, links_from, links, slot_from, read, slot_count, ticks_per_second, clock_set, seconds, ticks_into, first_ticking, first_dated, kind_of, name_of, interval_of, wait_of, routine_of, data_of, next_of, previous_of, party_split}
 use Rattle.model.specs.Sound.{header_tests, header_sound, unlinked, unstarted, slot_tests, slot_sound, previous_sound, chain_tests, chain_sound, first_sound, ticks_sound, rising, dates_sound, queue_sound, sound_tests, sound}
 use Rattle.laws.proofs.ListLaws.{cases, both, or_else, all-at, up_at, every-all, all, all_map, all-zip}
 use Rattle.laws.proofs.WellFormed.{times_in, Fits, Chained, Shape, WellFormed, Holds}

@@ -13,7 +13,7 @@ use borrow.Author.Tests.{ltb-true, ltb-false, eqb-true, eqb-false, eq-eqb}
 use Rattle.model.specs.declared.Chain.{Chain}
 use Rattle.model.specs.declared.Chain.TheVariants.{ByTicks, ByDate, Queue}
 use Rattle.model.specs.State.{Slot, Link, State, chain_of, free, slot_at}
-use Rattle.model.specs.Words.{first, difference, next_in, previous_in, wait_in, sum_of, slot_words, all_slots, write, written_over, word, field, head_word, accumulated, slot_from, ticks_into, wait_of, next_of, previous_of}
+use Rattle.model.specs.Words.{first, difference, next_in, previous_in, wait_in, sum_of, slot_words, all_slots, write, written_over, word, field, head_word, accumulated, slot_from, wait_of, next_of, previous_of}
 use Rattle.laws.proofs.ListLaws.{cases}
 use Rattle.laws.proofs.EachPlace.{end, ◌&◌, each_at}
 use Rattle.laws.proofs.WellFormed.{times_in, Chained, Holds}

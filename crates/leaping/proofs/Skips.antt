@@ -1,10 +1,10 @@
 -- Ticks in which no timer is due, taken at once: m of them leave every interval timer m ticks nearer and the clock m ticks on, and no other change.
 -- So a leap goes over them, and goes on from there. Assumes nothing.
-use mathlib.Core.Path.{◌≡◌, refl, sym, ap, ap₂, ◌∙◌, subst}
-use Prim.Native.Nat.{ℕ, zero, suc, ◌+◌, ◌-◌, ◌≤◌, ◌<◌}
+use mathlib.Core.Path.{◌≡◌, refl, sym, ap, ap₂, ◌∙◌}
+use Prim.Native.Nat.{ℕ, zero, suc, ◌+◌, ◌≤◌, ◌<◌}
 use native.Mathlib.Omega.{arith}
 use mathlib.Core.Bool.{true}
-use mathlib.Core.List.{List, [], ◌∷◌, ◌++◌, map}
+use mathlib.Core.List.{List, [], ◌++◌}
 use lib.ListN.{length}
 use lib.Dec.{leb, ltb, eqb}
 use borrow.Author.Tests.{ltb-true, ltb-false, lt-ltb, lt-leb}
@@ -17,25 +17,14 @@ use Rattle.model.specs.Directives.{fired_all, go_on, due, fire, nearer, closer, 
 use Rattle.laws.proofs.ListLaws.{cases, all_map, all-mapped, all-zip, keep_all, keep-none}
 use Rattle.laws.proofs.ClockSteps.{clock-unset, clock-is_set, clock-per_second, clock-into, clock-last}
 use Rattle.laws.proofs.WellFormed.{Chained, WellFormed}
-use Rattle.laws.proofs.Steps.{chained-nearer, chained-with-clock}
+use Rattle.laws.proofs.Steps.{chained-with-clock}
 use Rattle.laws.proofs.LeapLaws.{leapt-on, further}
 use Rattle.firing.specs.Nearer.{closer_by, nearer_by}
+use Rattle.firing.proofs.Nearer.{closer-none, closer-more, chained-by}
 use Rattle.leaping.specs.Leaps.{clock_on, skipped}
 use Rattle.leaping.proofs.ClockRuns.{step-inside, step-over, step_end, clock-stands}
 
 -- ---- the state after m of them
-
-closer-none : (l : List Link) → map (closer_by 0) l ≡ l
-closer-none [] = refl
-closer-none (w ∷ ws) =
-    let same : w.wait - 0 ≡ w.wait = omega arith in
-    ap₂ {C = List Link} (λ (n : ℕ) r. record { slot = w.slot; wait = n } ∷ r) same (closer-none ws)
-
-closer-more : (m : ℕ) (l : List Link) → map (closer_by m) (map closer l) ≡ map (closer_by (suc m)) l
-closer-more m [] = refl
-closer-more m (w ∷ ws) =
-    let same : w.wait - 1 - m ≡ w.wait - suc m = omega arith in
-    ap₂ {C = List Link} (λ (n : ℕ) r. record { slot = w.slot; wait = n } ∷ r) same (closer-more m ws)
 
 abbrev with-ticking : State → Clock → List Link → State
 with-ticking s c l = with_clock (with_chain ByTicks s s.slots l) c
@@ -71,11 +60,6 @@ on-keeps P step zero c h = h
 on-keeps P step (suc m) c h = on-keeps P step m (clock_step c) (step c h)
 
 -- ---- the chains stay in order, and the state well formed
-
-chained-by : (m : ℕ) (s : State) → Chained s → Chained (nearer_by m s)
-chained-by zero s h = subst Chained (sym (skipped-none s)) h
-chained-by (suc m) s h =
-    subst Chained (ap (with_chain ByTicks s s.slots) (closer-more m s.ticking)) (chained-by m (nearer s) (chained-nearer s h))
 
 pub chained-skipped : (m : ℕ) (s : State) → Chained s → Chained (skipped m s)
 chained-skipped m s h = chained-with-clock (nearer_by m s) (clock_on m s.clock) (chained-by m s h)

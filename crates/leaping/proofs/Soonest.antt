@@ -16,6 +16,7 @@ use Rattle.model.specs.Words.{written_over, read, ticks_per_second, seconds, tic
 use Rattle.model.specs.Sound.{sound}
 use Rattle.laws.proofs.ReadBack.{slots_length, over-over}
 use Rattle.laws.proofs.Steps.{chained-with-clock}
+use Rattle.laws.proofs.WellFormed.{Holds}
 use Rattle.laws.proofs.SoundHolds.{sound-header, sound-holds, sound-well-formed}
 use Rattle.links.proofs.NextState.{Next, next_start, next-read, next-holds, next-then}
 use Rattle.firing.specs.Nearer.{nearer_by, Nearable}
@@ -73,11 +74,11 @@ module _ (t : List ℕ) (ok : sound t ≡ true) where
         next-then (next_start (sound-holds t ok)) (λ z. with_clock z (clock_on m z.clock))
         (chained-with-clock (read t) (clock_on m (read t).clock) (sound-holds t ok).chained) refl e
 
+    pub skip-holds : Holds u (read u)
+    skip-holds = next-holds after-clock
+
     pub skip-nearable : Nearable u m
-    skip-nearable = record {
-      holds = next-holds after-clock;
-      far = subst (λ (z : State). All (λ w. m ≤ w.wait) z.ticking) (sym (next-read after-clock)) far;
-    }
+    skip-nearable = subst (λ (z : State). All (λ w. m ≤ w.wait) z.ticking) (sym (next-read after-clock)) far
 
     pub skip_is : {v : List ℕ} → v ≡ written_over (nearer_by m (read u)) u → v ≡ written_over (skipped m (read t)) t
     skip_is is =

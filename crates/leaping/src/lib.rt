@@ -11,7 +11,10 @@ ghost use Rattle.model.specs.Sound.{sound};
 ghost use Rattle.firing.specs.Lists.{Leaves};
 ghost use Rattle.leaping.specs.Leaps.{clock_on, skipped, until_ticks, until_date, until_due, Ready, LeapLeaves};
 
+use answers::Progress;
 use firing::{come_nearer, fire_dated, fire_ticking, step_clock};
+use links::Table;
+use slots::Sound;
 use table::{CLOCK_SET, FIRST_DATED, FIRST_TICKING, SECONDS, TICKS, TICKS_PER_SECOND, WAIT, get};
 
 // One tick: interval timers come nearer and those due fire; then the clock goes on and dated timers that are due fire. Gives how many. Server timers
@@ -20,17 +23,18 @@ pub fn tick(t: &mut [u32], list: &mut [u32], end: u32) -> u32
     requires { Ready t.old list.old end }
     ensures { Leaves t.old list.old (ticked (read t.old)) result t.new list.new }
 {
-    come_nearer(t, 1);
-    let ticking = fire_ticking(t, list, end);
-    step_clock(t);
-    let second = t[SECONDS];
+    let mut table = Table { words: t };
+    come_nearer(&mut table, 1);
+    let ticking = fire_ticking(&mut table, list, end);
+    step_clock(&mut table);
+    let second = table.word(SECONDS);
     let listed = ticking.count;
     let last = ticking.end;
-    let dated = fire_dated(t, list, second, listed, last);
+    let dated = fire_dated(&mut table, list, second, listed, last);
     dated.count
 }
 
-// The clock goes on by many ticks at once, if it is set, and stands still at its last one.
+// The clock goes on by many ticks at once, if it is set, and stands still at its last one. (Sound by a clause, here and in `skip`: the words are written.)
 fn run_clock(t: &mut [u32], ticks: u32)
     requires { (sound t.old ≡ true) × (ticks ≤ most_leap) }
     ensures { t.new ≡ written_over (with_clock (read t.old) (clock_on ticks (read t.old).clock)) t.old }
@@ -56,30 +60,23 @@ fn skip(t: &mut [u32], ticks: u32)
     ensures { t.new ≡ written_over (skipped ticks (read t.old)) t.old }
 {
     run_clock(t, ticks);
-    come_nearer(t, ticks);
+    let mut table = Table { words: t };
+    come_nearer(&mut table, ticks);
 }
 
 // The ticks until the first interval timer is due, or `most` if they are no fewer.
-fn until_ticks(t: &[u32], most: u32) -> u32
-    requires { sound t.now ≡ true }
-    ensures { result ≡ until_ticks most (read t.now).ticking }
+fn until_ticks(t: Sound, most: u32) -> u32
+    ensures { result ≡ until_ticks most (read t.entry.words.now).ticking }
 {
-    let i = t[FIRST_TICKING];
+    let i = t.words[FIRST_TICKING];
     if i == 0 {
         return most;
     }
-    let w = get(t, i, WAIT);
+    let w = get(t.words, i, WAIT);
     if w < most {
         return w;
     }
     most
-}
-
-// A number as a wider one.
-fn wide(x: u32) -> u64
-    ensures { result ≡ x }
-{
-    x as u64
 }
 
 // The ticks in some seconds, but for those that are over already: in 64 bits, since those until a date can pass 32.
@@ -87,62 +84,55 @@ fn ticks_away(seconds: u32, rate: u32, into: u32) -> u64
     requires { (1 ≤ seconds) × (rate ≤ 1000) × (into < rate) }
     ensures { result ≡ seconds * rate - into }
 {
-    wide(seconds) * wide(rate) - wide(into)
+    u64::from(seconds) * u64::from(rate) - u64::from(into)
 }
 
 // The ticks until the clock comes to the first date, or `most` if they are no fewer.
-fn until_date(t: &[u32], most: u32) -> u32
-    requires { sound t.now ≡ true }
-    ensures { result ≡ until_date most (read t.now).clock (read t.now).dated }
+fn until_date(t: Sound, most: u32) -> u32
+    ensures { result ≡ until_date most (read t.entry.words.now).clock (read t.entry.words.now).dated }
 {
-    let i = t[FIRST_DATED];
+    let i = t.words[FIRST_DATED];
     if i == 0 {
         return most;
     }
-    let date = get(t, i, WAIT);
-    let ticks = ticks_away(date - t[SECONDS], t[TICKS_PER_SECOND], t[TICKS]);
-    if ticks < wide(most) {
+    let date = get(t.words, i, WAIT);
+    let ticks = ticks_away(
+        date - t.words[SECONDS],
+        t.words[TICKS_PER_SECOND],
+        t.words[TICKS],
+    );
+    if ticks < u64::from(most) {
+        // (below `most`: a `try_from` would have a refusal that no call meets)
         return ticks as u32;
     }
     most
 }
 
 // The ticks until some timer is due, or `most` if they are no fewer.
-fn until_due(t: &[u32], most: u32) -> u32
-    requires { sound t.now ≡ true }
-    ensures { result ≡ until_due most (read t.now) }
+fn until_due(t: Sound, most: u32) -> u32
+    ensures { result ≡ until_due most (read t.entry.words.now) }
 {
     let ticks = until_ticks(t, most);
     until_date(t, ticks)
-}
-
-// How many fired, and how many ticks were done.
-#[derive(Clone, Copy)]
-pub struct Gone {
-    pub count: u32,
-    pub done: u32,
 }
 
 // The most ticks of a leap.
 pub const MOST_LEAP: u32 = 1000000;
 
 // A leap by so many ticks: it stops after the first one in which a timer fires or is queued.
-pub fn leap(t: &mut [u32], most: u32, list: &mut [u32], end: u32) -> Gone
+pub fn leap(t: &mut [u32], most: u32, list: &mut [u32], end: u32) -> Progress
     requires { Ready t.old list.old end × (most ≤ most_leap) }
-    ensures { LeapLeaves t.old list.old most result.count result.done t.new list.new }
+    ensures { LeapLeaves t.old list.old most result.fired result.done t.new list.new }
 {
-    let ticks = until_due(t, most + 1);
+    let ticks = until_due(Sound { words: t }, most + 1);
     if most < ticks {
         skip(t, most);
-        return Gone {
-            count: 0,
+        return Progress {
+            fired: 0,
             done: most,
         };
     }
     skip(t, ticks - 1);
     let fired = tick(t, list, end);
-    Gone {
-        count: fired,
-        done: ticks,
-    }
+    Progress { fired, done: ticks }
 }

@@ -14,7 +14,7 @@ use Rattle.model.specs.Lists.{All, Sorted}
 use Rattle.model.specs.Kinds.{kind_at, same_chain, waits_in}
 use Rattle.model.specs.State.{Slot, Link, State, chain_of, with_chain, free, slot_at, put_at, without}
 use Rattle.model.specs.Directives.{stopped, idled}
-use Rattle.model.specs.Words.{first, difference, written_over, word, slot_from, read, kind_of, name_of, interval_of, wait_of, routine_of, data_of}
+use Rattle.model.specs.Words.{first, difference, written_over, word, slot_from, read, kind_of, name_of, interval_of, wait_of, routine_of, data_of, next_of}
 use Rattle.laws.proofs.WellFormed.{times_in, Holds}
 use Rattle.laws.proofs.Chains.{without-none}
 use Rattle.laws.proofs.KindLaws.{each-chain, none_in, stopped-not-in, stays}
@@ -68,6 +68,10 @@ module _ (k : Chain) (t : List ℕ) (s : State) (h : Holds t s) (xs : List Link)
       ∙ wait-without-is k t y.slot (wait_of t e.slot) (last_wait 0 xs) e.wait y.wait (λ z. omega (arith, (behind-within around y zs q).0))
       rest.0.wait (mid-stands k t s h xs e ys whole).wait (last-low k t s h xs e ys whole)
       (sorted-next xs e y zs (subst (λ (c : List Link). Sorted (λ w. w.wait) (xs ++ e ∷ c)) q (mid-sorted k t s h xs e ys whole)))
+
+  beside-mid : (8 * e.slot + 10 ≤ length t) × (8 * next_of t e.slot + 10 ≤ length t)
+  beside-mid =
+      (omega (arith, (own-within around).1, h.long), omega (arith, (mid-stands k t s h xs e ys whole).next, first-high around, h.long))
 
   module _ (fits : (m : ℕ) → word t m < 4294967296) where
     -- the wait of the slot behind fits a word
@@ -163,6 +167,13 @@ module _ (t : List ℕ) (i : ℕ) (h : InTable t i) where
     pub extractable : ((m : ℕ) → word t m < 4294967296) → Extractable k t i
     extractable fits =
         let f = found in subst (Extractable k t) f.slot (extractable-mid k t (read t) h.holds f.front f.entry f.back f.whole fits)
+
+    -- the words of its slot and of the next one are in the slice
+    pub beside : (8 * i + 10 ≤ length t) × (8 * next_of t i + 10 ≤ length t)
+    beside =
+        let f = found in
+        subst (λ (j : ℕ). (8 * j + 10 ≤ length t) × (8 * next_of t j + 10 ≤ length t)) f.slot
+        (beside-mid k t (read t) h.holds f.front f.entry f.back f.whole)
 
     -- the words after the steps of a stop
     pub stop-waiting : {t₁ t₂ : List ℕ} (v : ℕ) → v ≡ (kind_at (kind_of t i)).when_stopped → t₁ ≡ extracted_words k t i → t₂ ≡ set t₁ (field_word i 0) v

@@ -4,6 +4,7 @@ use mathlib.Core.Path.{◌≡◌, refl, sym, ap, ap₂, ◌∙◌, subst}
 use mathlib.Core.Logic.{◌≢◌}
 use Prim.Native.Nat.{ℕ, ◌≤◌, ◌<◌, zero-le}
 use native.Mathlib.Omega.{arith}
+use mathlib.Core.Bool.{false}
 use mathlib.Core.List.{List, [], ◌∷◌, ◌++◌}
 use lib.ListN.{length, get_or, set}
 use lib.Dec.{leb, eqb}
@@ -12,10 +13,10 @@ use Rattle.model.specs.declared.Chain.{Chain}
 use Rattle.model.specs.declared.Chain.TheVariants.{ByTicks, ByDate, Queue}
 use Rattle.model.specs.Lists.{place}
 use Rattle.model.specs.declared.Mode.{Mode}
-use Rattle.model.specs.Kinds.{chain_for, waiting_kind, interval_in}
+use Rattle.model.specs.Kinds.{chain_for, waiting_kind, interval_in, waits_in}
 use Rattle.model.specs.State.{Slot, Link, State, chain_of, with_chain, slot_at, put_at}
 use Rattle.model.specs.Directives.{stopped, became, inserted, waiting_as, started}
-use Rattle.model.specs.Words.{first, difference, written_over, read, name_of, wait_of}
+use Rattle.model.specs.Words.{first, difference, written_over, read, kind_of, name_of, wait_of}
 use Rattle.laws.proofs.ListLaws.{cases, count-append}
 use Rattle.laws.proofs.WellFormed.{times_in, Chained, Holds}
 use Rattle.laws.proofs.Chains.{without-none, once, once-apart, met-in-range}
@@ -23,7 +24,7 @@ use Rattle.laws.proofs.StateWords.{holds_parts, Linked}
 use Rattle.laws.proofs.KindLaws.{each-chain}
 use Rattle.laws.proofs.Steps.{same-state, with-chain-slots, with-chain-clock, with-chain-split, with-chain-server, with-chain-own, with-chain-apart, stopped-chain, chained-started}
 use Rattle.chains.specs.EditedWords.{field_word, relinked, wait_behind, inserted_words, Insertable}
-use Rattle.links.specs.Places.{up_to, beyond, last_slot, last_wait, At, IdleInTable}
+use Rattle.links.specs.Places.{up_to, beyond, last_slot, last_wait, At, InTable}
 use Rattle.links.specs.TimerWords.{timer_put}
 use Rattle.links.proofs.LinkInMiddle.{times-at}
 use Rattle.links.proofs.TimerWords.{timer-put-edit}
@@ -204,12 +205,12 @@ module _ (k : Chain) (t : List ℕ) (s : State) (h : Holds t s) (xs : List Link)
 
 -- ---- a table
 
-module _ (k : Chain) (t : List ℕ) (i : ℕ) (h : IdleInTable t i) (n p w : ℕ) (at : At k (read t) n p w) where
+module _ (k : Chain) (t : List ℕ) (i : ℕ) (h : InTable t i) (idle : (m : Chain) → waits_in m (kind_of t i) ≡ false) (n p w : ℕ) (at : At k (read t) n p w) where
   pub insertable : Insertable k t p i w
   insertable =
       let c = chain_of k (read t) in
-      rw at.slot (insertable-mid k t (read t) h.in_table.holds (up_to n c) (record { slot = i; wait = n }) (beyond n c) (parted n c)
-      h.in_table.low (in-slots t i h.in_table) (in-none t i h.in_table h.idle) (last_up 0 n c zero-le) (first-beyond n c)
+      rw at.slot (insertable-mid k t (read t) h.holds (up_to n c) (record { slot = i; wait = n }) (beyond n c) (parted n c)
+      h.low (in-slots t i h) (in-none t i h idle) (last_up 0 n c zero-le) (first-beyond n c)
       w at.word)
 
   -- the words after the steps of a start
@@ -220,8 +221,8 @@ module _ (k : Chain) (t : List ℕ) (i : ℕ) (h : IdleInTable t i) (n p w : ℕ
       let e : Link = record { slot = i; wait = n } in
       timer ∙ ap₂ (λ (a b : ℕ). timer_put t₁ i a b r u) is (for ∙ ap (λ (j : Chain). interval_in j n) in-k)
       ∙ ap (λ (l : List ℕ). timer_put l i (waiting_kind m) (interval_in (chain_for m) n) r u) put
-      ∙ rw at.slot (start-mid k t (read t) h.in_table.holds (up_to n c) e (beyond n c) (parted n c)
-      h.in_table.low (in-slots t i h.in_table) (in-none t i h.in_table h.idle) (last_up 0 n c zero-le) (first-beyond n c)
+      ∙ rw at.slot (start-mid k t (read t) h.holds (up_to n c) e (beyond n c) (parted n c)
+      h.low (in-slots t i h) (in-none t i h idle) (last_up 0 n c zero-le) (first-beyond n c)
       w at.word m in-k r u (placed e c))
 
   -- the words after the slot was inserted, and its kind written
@@ -232,6 +233,6 @@ module _ (k : Chain) (t : List ℕ) (i : ℕ) (h : IdleInTable t i) (n p w : ℕ
       let c = chain_of k (read t) in
       let e : Link = record { slot = i; wait = n } in
       store ∙ ap (λ (l : List ℕ). set l (field_word i 0) kind) put
-      ∙ rw at.slot (kind-mid k t (read t) h.in_table.holds (up_to n c) e (beyond n c) (parted n c)
-      h.in_table.low (in-slots t i h.in_table) (in-none t i h.in_table h.idle) (last_up 0 n c zero-le) (first-beyond n c)
+      ∙ rw at.slot (kind-mid k t (read t) h.holds (up_to n c) e (beyond n c) (parted n c)
+      h.low (in-slots t i h) (in-none t i h idle) (last_up 0 n c zero-le) (first-beyond n c)
       w at.word kind (placed e c) ok)

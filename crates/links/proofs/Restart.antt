@@ -11,13 +11,14 @@ use Rattle.model.specs.Kinds.{kind_at, chain_for, waits_in, linked}
 use Rattle.model.specs.State.{Slot, Link, State, slot_at, without}
 use Rattle.model.specs.Directives.{stopped, idled, inserted, waiting_as, started}
 use Rattle.model.specs.Words.{written_over, read, kind_of}
+use Rattle.laws.proofs.WellFormed.{Holds}
 use Rattle.laws.proofs.Slots.{at_same, put-put}
 use Rattle.laws.proofs.Chains.{times-without, without-none}
 use Rattle.laws.proofs.KindLaws.{in-none, stopped-not-in}
 use Rattle.laws.proofs.StateWords.{holds_parts}
 use Rattle.laws.proofs.ReadBack.{count-is, over-over}
 use Rattle.laws.proofs.Steps.{length-stopped, chained-stopped, length-started}
-use Rattle.links.specs.Places.{InTable, IdleInTable}
+use Rattle.links.specs.Places.{InTable, IdleInTable, IsSlot}
 use Rattle.links.proofs.Extracting.{in-slots, kind-is, stop-idle}
 use Rattle.links.proofs.NextState.{Next, next_start, next-read, next-holds, next-then}
 
@@ -33,6 +34,12 @@ stopped-twice s i x y =
       server = s.server;
       queue = once s.queue d;
     }
+
+pub in_table : {t : List ℕ} {i : ℕ} → Holds t (read t) → IsSlot t i → InTable t i
+in_table h s = record { holds = h; low = s.low; high = s.high }
+
+pub is_slot : {t : List ℕ} {i : ℕ} → InTable t i → IsSlot t i
+is_slot h = record { low = h.low; high = h.high }
 
 abbrev pub stopped_at : List ℕ → ℕ → State
 stopped_at t i = stopped (read t) i (idled (slot_at (read t).slots i))
@@ -57,13 +64,16 @@ module _ (t : List ℕ) (i : ℕ) (h : InTable t i) (u : List ℕ) (is : u ≡ w
   size-now : length (stopped_at t i).slots ≡ length (read t).slots
   size-now = length-stopped (read t) i (idled (slot_at (read t).slots i))
 
+  pub still-in : InTable u i
+  still-in = record {
+    holds = next-holds stop-next;
+    low = h.low;
+    high = omega (arith, count-is u (stopped_at t i) stop-next.holds, size-now, in-slots t i h);
+  }
+
   pub idle-now : IdleInTable u i
   idle-now = record {
-    in_table = record {
-      holds = next-holds stop-next;
-      low = h.low;
-      high = omega (arith, count-is u (stopped_at t i) stop-next.holds, size-now, in-slots t i h);
-    };
+    slot = record { low = still-in.low; high = still-in.high };
     idle = λ k.
         let kind : kind_of u i ≡ (slot_at (stopped_at t i).slots i).kind =
         ap (λ (x : Slot). x.kind) ((holds_parts u (stopped_at t i) stop-next.holds).slots i h.low (omega (arith, size-now, in-slots t i h))) in

@@ -1,2 +1,4 @@
+pub mod InOrder
 pub mod Places
+pub mod Tables
 pub mod TimerWords

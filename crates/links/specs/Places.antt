@@ -30,6 +30,11 @@ pub record At (k : Chain) (s : State) (n before wait : ℕ) : Type 0 where
   pub slot : before ≡ last_slot 0 (up_to n (chain_of k s))
   pub word : wait ≡ difference k (last_wait 0 (up_to n (chain_of k s))) n
 
+-- slot i is one of the table's
+pub record IsSlot (t : List ℕ) (i : ℕ) : Type 0 where
+  pub low : 1 ≤ i
+  pub high : i ≤ slot_count t
+
 -- slot i is one of the table's, whose chains are in order
 pub record InTable (t : List ℕ) (i : ℕ) : Type 0 where
   pub holds : Holds t (read t)
@@ -42,15 +47,17 @@ pub record Stops (t : List ℕ) (k : Chain) (i idle : ℕ) : Type 0 where
   pub waits : waits_in k (kind_of t i) ≡ true
   pub kind : idle ≡ (kind_at (kind_of t i)).when_stopped
 
--- it is the first there, and due where it waits for ticks
+-- slot i waits in chain k, and stops as that kind; it is the first there, and due where it waits for ticks
 pub record FirstStops (t : List ℕ) (k : Chain) (i idle : ℕ) : Type 0 where
-  pub stops : Stops t k i idle
+  pub slot : IsSlot t i
+  pub waits : waits_in k (kind_of t i) ≡ true
+  pub kind : idle ≡ (kind_at (kind_of t i)).when_stopped
   pub first : previous_of t i ≡ 0
   pub due : k ≡ ByTicks → wait_of t i ≡ 0
 
 -- it does not wait
 pub record IdleInTable (t : List ℕ) (i : ℕ) : Type 0 where
-  pub in_table : InTable t i
+  pub slot : IsSlot t i
   pub idle : (k : Chain) → waits_in k (kind_of t i) ≡ false
 
 -- slot p is one of chain k, or 0 for the chain's start, and is due by the time that is `amount` behind it

@@ -3,45 +3,43 @@
 #![tactic(auto)]
 
 ghost use Rattle.std.specs.Prelude.{◌≡◌, ◌+◌, ◌*◌, ◌<◌, ◌≤◌, true, length};
-ghost use Rattle.model.specs.Kinds.{kind_at, chain_for, waiting_kind, interval_in, linked, waits_in};
+ghost use Rattle.model.specs.Kinds.{kind_at, chain_for, waiting_kind, interval_in, linked};
 ghost use Rattle.model.specs.State.{chain_of, slot_at, wait_at};
 ghost use Rattle.model.specs.Directives.{stored, stopped, idled, started};
-ghost use Rattle.model.specs.Words.{difference, accumulated, read, written_over, wait_of, next_of};
+ghost use Rattle.model.specs.Words.{word, head_word, field, difference, accumulated, read, written_over, wait_of, next_of};
 ghost use Rattle.laws.proofs.WellFormed.{Holds, times_in};
-ghost use Rattle.links.specs.Places.{At, InTable, Stops, FirstStops, IdleInTable, From};
+ghost use Rattle.links.specs.InOrder.{Holds-prop};
+ghost use Rattle.table.specs.Kinds.{word_of};
+ghost use Rattle.links.specs.Places.{At, InTable, IsSlot, Stops, FirstStops, IdleInTable, From};
 ghost use Rattle.links.specs.TimerWords.{timer_put};
 
 use chains::{extract, extract_first, follower, insert};
 use model::{Chain, Mode};
-use table::{
-    DATA, IDLE_DATE, IDLE_EVERY, IDLE_TICKS, INTERVAL, KIND, NAME, NEXT, PREVIOUS, QUEUED_DATE,
-    QUEUED_TICKS, ROUTINE, SERVER_IDLE_DATE, SERVER_IDLE_TICKS, SERVER_WAITING_DATE,
-    SERVER_WAITING_TICKS, WAIT, WAITING_DATE, WAITING_EVERY, WAITING_TICKS, get, put,
-};
+use table::{DATA, INTERVAL, KIND, Kind, NAME, NEXT, PREVIOUS, ROUTINE, WAIT, get, put};
+
+// What a start says: its chain, its kind and its interval. (Functions and no methods of `Mode` and `Chain`: these are types of crate `model`, whose
+// definitions cite them.)
 
 // The chain in which a start waits.
 fn chain_for(mode: Mode) -> Chain
     ensures { result ≡ chain_for mode }
 {
     match mode {
-        Mode::After => Chain::ByTicks,
-        Mode::When => Chain::ByDate,
-        Mode::Every => Chain::ByTicks,
-        Mode::ServerAfter => Chain::ByTicks,
-        Mode::ServerWhen => Chain::ByDate,
+        Mode::After | Mode::Every | Mode::ServerAfter => Chain::ByTicks,
+        Mode::When | Mode::ServerWhen => Chain::ByDate,
     }
 }
 
 // The kind of a timer that was started.
-fn waiting_kind(mode: Mode) -> u32
-    ensures { result ≡ waiting_kind mode }
+fn waiting_kind(mode: Mode) -> Kind
+    ensures { word_of result ≡ waiting_kind mode }
 {
     match mode {
-        Mode::After => WAITING_TICKS,
-        Mode::When => WAITING_DATE,
-        Mode::Every => WAITING_EVERY,
-        Mode::ServerAfter => SERVER_WAITING_TICKS,
-        Mode::ServerWhen => SERVER_WAITING_DATE,
+        Mode::After => Kind::WaitingTicks,
+        Mode::When => Kind::WaitingDate,
+        Mode::Every => Kind::WaitingEvery,
+        Mode::ServerAfter => Kind::ServerWaitingTicks,
+        Mode::ServerWhen => Kind::ServerWaitingDate,
     }
 }
 
@@ -51,57 +49,22 @@ fn interval_in(chain: Chain, amount: u32) -> u32
 {
     match chain {
         Chain::ByTicks => amount,
-        Chain::ByDate => 0,
-        Chain::Queue => 0,
+        Chain::ByDate | Chain::Queue => 0,
     }
 }
 
-// The kind of a timer that stops; one that is in no chain keeps its own.
+// The word of the kind of a timer that stops; one that is in no chain keeps its own. Every word is answered: one that is no kind stays.
 pub fn stopped_kind(kind: u32) -> u32
     ensures { result ≡ (kind_at kind).when_stopped }
 {
-    if kind == WAITING_TICKS {
-        return IDLE_TICKS;
+    match Kind::try_from(kind) {
+        Ok(known) => known.stopped().into(),
+        Err(_) => kind,
     }
-    if kind == WAITING_DATE {
-        return IDLE_DATE;
-    }
-    if kind == WAITING_EVERY {
-        return IDLE_EVERY;
-    }
-    if kind == SERVER_WAITING_TICKS {
-        return SERVER_IDLE_TICKS;
-    }
-    if kind == SERVER_WAITING_DATE {
-        return SERVER_IDLE_DATE;
-    }
-    if kind == QUEUED_TICKS {
-        return SERVER_IDLE_TICKS;
-    }
-    if kind == QUEUED_DATE {
-        return SERVER_IDLE_DATE;
-    }
-    kind
 }
 
-// The chain in which a timer of the kind stands.
-fn chain_in(kind: u32) -> Chain
-    requires { linked kind ≡ true }
-    ensures { waits_in result kind ≡ true }
-{
-    if QUEUED_TICKS <= kind {
-        return Chain::Queue;
-    }
-    if kind == WAITING_DATE {
-        return Chain::ByDate;
-    }
-    if kind == SERVER_WAITING_DATE {
-        return Chain::ByDate;
-    }
-    Chain::ByTicks
-}
-
-// A timer that stands in the chain stops, as that kind.
+// A timer that stands in the chain stops, as that kind. (A method of `Table` has no proof that the next slot's wait fits a word then: of words
+// behind a field nothing says that each fits.)
 fn stop_in(t: &mut [u32], chain: Chain, i: u32, idle: u32)
     requires { Stops t.old chain i idle }
     ensures { t.new ≡ written_over (stopped (read t.old) i (idled (slot_at (read t.old).slots i))) t.old }
@@ -110,32 +73,8 @@ fn stop_in(t: &mut [u32], chain: Chain, i: u32, idle: u32)
     put(t, i, KIND, idle)
 }
 
-// The first timer of the chain stops, as that kind; in the interval chain it is due. Gives the slot that followed it.
-pub fn stop_first(t: &mut [u32], chain: Chain, i: u32, idle: u32) -> u32
-    requires { FirstStops t.old chain i idle }
-    ensures { (t.new ≡ written_over (stopped (read t.old) i (idled (slot_at (read t.old).slots i))) t.old) × (result ≡ next_of t.old i) }
-{
-    let next = extract_first(t, chain, i);
-    put(t, i, KIND, idle);
-    next
-}
-
-// A waiting or queued timer becomes idle of its own kind; one in no chain stays as it is. Gives whether it was in one.
-pub fn stop(t: &mut [u32], i: u32) -> bool
-    requires { InTable t.old i }
-    ensures { (t.new ≡ written_over (stopped (read t.old) i (idled (slot_at (read t.old).slots i))) t.old) × (result ≡ linked (slot_at (read t.old).slots i).kind) }
-{
-    let kind = get(t, i, KIND);
-    let idle = stopped_kind(kind);
-    if idle == kind {
-        return false;
-    }
-    stop_in(t, chain_in(kind), i, idle);
-    true
-}
-
 // Where a timer goes: the slot before it, and its wait.
-#[derive(Clone, Copy)]
+#[derive(Clone, Copy, Debug, PartialEq, Eq)]
 pub struct Place {
     pub before: u32,
     pub wait: u32,
@@ -148,13 +87,13 @@ fn behind(chain: Chain, left: u32, w: u32) -> u32
 {
     match chain {
         Chain::ByTicks => left - w,
-        Chain::ByDate => left,
-        Chain::Queue => left,
+        Chain::ByDate | Chain::Queue => left,
     }
 }
 
 // The place of a timer that is due `amount` ticks after slot `from`, or at the date `amount`: behind every timer due by then. Slot `from` is
-// one of the chain that is due by then, or 0 for the chain's start.
+// one of the chain that is due by then, or 0 for the chain's start. (No method of `Table`, nor is `ticks_to`: they take words that are lent to be read,
+// and a `Table` wants them lent to be written.)
 pub fn place_from(t: &[u32], chain: Chain, from: u32, amount: u32) -> Place
     requires { From chain t.now from amount }
     ensures { At chain (read t.now) (accumulated chain (wait_at from (chain_of chain (read t.now))) amount) result.before result.wait }
@@ -190,7 +129,8 @@ fn find_place(t: &[u32], chain: Chain, n: u32) -> Place
     place_from(t, chain, 0, n)
 }
 
-// Kind, interval, routine and user data of slot i.
+// Kind, interval, routine and user data of slot i. (Routine and user data stay two parameters, here and from the calls down to here: a struct of them
+// would be made in each call, and taken apart in each store, in each entry of the list and in each clause, as in `started`.)
 fn put_timer(t: &mut [u32], i: u32, kind: u32, interval: u32, routine: u32, user_data: u32)
     requires { 8 * i + 10 ≤ length t.old }
     ensures { t.new ≡ timer_put t.old i kind interval routine user_data }
@@ -201,31 +141,99 @@ fn put_timer(t: &mut [u32], i: u32, kind: u32, interval: u32, routine: u32, user
     put(t, i, DATA, user_data);
 }
 
-// A timer that does not wait starts to wait, behind every timer due at the same tick or date.
-fn start_idle(t: &mut [u32], mode: Mode, i: u32, amount: u32, routine: u32, user_data: u32)
-    requires { IdleInTable t.old i }
-    ensures { t.new ≡ written_over (started mode (read t.old) i amount routine user_data) t.old }
-{
-    let chain = chain_for(mode);
-    let place = find_place(t, chain, amount);
-    let p = place.before;
-    let w = place.wait;
-    insert(t, chain, p, i, w);
-    let kind = waiting_kind(mode);
-    let interval = interval_in(chain, amount);
-    put_timer(t, i, kind, interval, routine, user_data);
+// The words of a table, whose chains are in order.
+#[derive(Drop)]
+pub struct Table<'t> {
+    pub words: &'t mut [u32],
+    pub ghost in_order: { Holds words.now (read words.now) } by { Holds-prop words.now (read words.now) },
 }
 
-// A timer starts to wait, whatever it did before.
-pub fn start(t: &mut [u32], mode: Mode, i: u32, amount: u32, routine: u32, user_data: u32)
-    requires { InTable t.old i }
-    ensures { t.new ≡ written_over (started mode (read t.old) i amount routine user_data) t.old }
-{
-    stop(t, i);
-    start_idle(t, mode, i, amount, routine, user_data);
+impl<'t> Table<'t> {
+    ghost use Rattle.links.specs.Tables.{Becomes};
+
+    // Word `at` of the header.
+    pub fn word(&self, at: usize) -> u32
+        requires { at < 10 }
+        ensures { result ≡ word self.now.words.now at }
+    {
+        self.words[at]
+    }
+
+    // The first slot of the chain, 0 where that is empty.
+    pub fn first(&self, chain: Chain) -> u32
+        ensures { result ≡ word self.now.words.now (head_word chain) }
+    {
+        follower(self.words, chain, 0)
+    }
+
+    // Word `at` of slot i.
+    pub fn get(&self, i: u32, at: usize) -> u32
+        requires slot { IsSlot self.now.words.now i }
+        requires word { at < 8 }
+        ensures { result ≡ field self.now.words.now i at }
+    {
+        get(self.words, i, at)
+    }
+
+    // The first timer of the chain stops, as that kind; in the interval chain it is due. Gives the slot that followed it.
+    pub fn stop_first(&mut self, chain: Chain, i: u32, idle: u32) -> u32
+        requires { FirstStops self.old.words.now chain i idle }
+        ensures table { Becomes self.old self.new (stopped (read self.old.words.now) i (idled (slot_at (read self.old.words.now).slots i))) }
+        ensures next { result ≡ next_of self.old.words.now i }
+    {
+        let words = &mut *self.words;
+        let next = extract_first(words, chain, i);
+        put(words, i, KIND, idle);
+        next
+    }
+
+    // A waiting or queued timer becomes idle of its own kind; one in no chain stays as it is. Gives whether it was in one.
+    // (Left to itself, the compiler makes a call of it, and a cancel takes 12 instructions more.)
+    #[inline(always)]
+    pub fn stop(&mut self, i: u32) -> bool
+        requires { IsSlot self.old.words.now i }
+        ensures table { Becomes self.old self.new (stopped (read self.old.words.now) i (idled (slot_at (read self.old.words.now).slots i))) }
+        ensures was_linked { result ≡ linked (slot_at (read self.old.words.now).slots i).kind }
+    {
+        let words = &mut *self.words;
+        let Ok(kind) = Kind::try_from(get(words, i, KIND)) else {
+            return false;
+        };
+        let Some(chain) = kind.chain() else {
+            return false;
+        };
+        stop_in(words, chain, i, kind.stopped().into());
+        true
+    }
+
+    // A timer that does not wait starts to wait, behind every timer due at the same tick or date.
+    fn start_idle(&mut self, mode: Mode, i: u32, amount: u32, routine: u32, user_data: u32)
+        requires { IdleInTable self.old.words.now i }
+        ensures { Becomes self.old self.new (started mode (read self.old.words.now) i amount routine user_data) }
+    {
+        let chain = chain_for(mode);
+        let words = &mut *self.words;
+        let place = find_place(words, chain, amount);
+        let p = place.before;
+        let w = place.wait;
+        insert(words, chain, p, i, w);
+        let kind = waiting_kind(mode);
+        let interval = interval_in(chain, amount);
+        put_timer(words, i, kind.into(), interval, routine, user_data);
+    }
+
+    // A timer starts to wait, whatever it did before.
+    pub fn start(&mut self, mode: Mode, i: u32, amount: u32, routine: u32, user_data: u32)
+        requires { IsSlot self.old.words.now i }
+        ensures { Becomes self.old self.new (started mode (read self.old.words.now) i amount routine user_data) }
+    {
+        self.stop(i);
+        self.start_idle(mode, i, amount, routine, user_data);
+    }
 }
 
-// A slot gets another kind and name, and what was stored at a start is cleared.
+// A slot gets another kind and name, and what was stored at a start is cleared. Nothing is asked of the kind, and with one that waits the chains
+// are in order no more: so this is no method of `Table`.
 pub fn store(t: &mut [u32], i: u32, kind: u32, name: u32)
     requires { InTable t.old i }
     ensures { t.new ≡ written_over (stored (read t.old) i (record { kind = kind; name = name; interval = 0; routine = 0; user_data = 0 })) t.old }

@@ -5,7 +5,9 @@ use mathlib.Core.Bool.{true, false}
 use mathlib.Core.List.{List, [], ◌∷◌, map}
 use lib.ListN.{replicate}
 use Rattle.macro_check.specs.Passed.{passed}
-use Rattle.macro_library.specs.declared.Found.TheVariants.{Own, Shared, Nowhere}
+use Rattle.std.specs.Prelude.{Some, None}
+use Rattle.macro_library.specs.declared.Found.TheVariants.{Own, Shared}
+use Rattle.macro_library.specs.Library.{stretch}
 use Rattle.macro_record.specs.Record.{runner_of, fresh}
 use Rattle.macros.specs.Stepping.{taken_as}
 use Rattle.macro_c.specs.Exports.{check_status, runner_in, words_of, exported_as, exported, located_at, located}
@@ -33,5 +35,5 @@ pub comes : exported (taken_as 10 (1 ∷ []) (runner_of 5 (1 ∷ 2 ∷ 3 ∷ 4 �
 comes = refl
 
 -- HC_MACRO_OWN, HC_MACRO_SHARED, HC_MACRO_NOWHERE
-pub libraries : map located (Own 2 5 ∷ Shared 7 10 ∷ Nowhere ∷ []) ≡ located_at 1 2 5 ∷ located_at 2 7 10 ∷ located_at 0 0 0 ∷ []
+pub libraries : map located (Some (Own (stretch 2 5)) ∷ Some (Shared (stretch 7 10)) ∷ None ∷ []) ≡ located_at 1 2 5 ∷ located_at 2 7 10 ∷ located_at 0 0 0 ∷ []
 libraries = refl

@@ -1,11 +1,11 @@
 -- What C gives and gets, in the macro runner's terms: the record as ten words, a step's outcome, a place in a library. Assumes nothing: these are
 -- definitions.
-use Rattle.std.specs.Prelude.{ℕ, cond, List, [], ◌∷◌, get_or}
+use Rattle.std.specs.Prelude.{ℕ, cond, List, [], ◌∷◌, get_or, Option, Some, None}
 use Rattle.model.specs.declared.Status.TheVariants.{InvalidNumber}
 use Rattle.model.specs.Status.{number_of}
 use Rattle.macro_check.specs.Passed.{passed}
 use Rattle.macro_library.specs.declared.Found.{Found}
-use Rattle.macro_library.specs.declared.Found.TheVariants.{Own, Shared, Nowhere}
+use Rattle.macro_library.specs.declared.Found.TheVariants.{Own, Shared}
 use Rattle.macro_record.specs.declared.Runner.{Runner}
 use Rattle.macro_record.specs.Record.{runner_of}
 use Rattle.macros.specs.Stepping.{Taken}
@@ -46,7 +46,7 @@ pub record Located : Type 0 where
 abbrev pub located_at : ℕ → ℕ → ℕ → Located
 located_at library offset words = record { library = library; offset = offset; words = words }
 
-abbrev pub located : Found → Located
-located (Own a n) = located_at 1 a n
-located (Shared a n) = located_at 2 a n
-located Nowhere = located_at 0 0 0
+abbrev pub located : Option Found → Located
+located (Some (Own s)) = located_at 1 s.start s.words
+located (Some (Shared s)) = located_at 2 s.start s.words
+located None = located_at 0 0 0

@@ -3,19 +3,20 @@
 // number of the library. The contracts are the runner's own equations.
 #![tactic(auto)]
 
-ghost use Rattle.std.specs.Prelude.{◌≡◌};
+ghost use Rattle.std.specs.Prelude.{◌≡◌, List, ℕ};
 ghost use Rattle.macro_library.specs.Library.{found_in};
-ghost use Rattle.macros.specs.Stepping.{stepped};
+ghost use Rattle.macros.specs.Stepping.{stepped, took};
 ghost use Rattle.macros.specs.Runs.{ran_for};
 ghost use Rattle.macro_c.specs.Exports.{check_status, runner_in, words_of, exported_as, exported, located_at, located};
 
 use answers::{number_in, status_of};
 use macro_check::MOST_DEEP;
-use macro_library::Found;
+use macro_library::{Found, Stretch};
 use macro_record::Runner;
-use model::Status;
+use macros::Stepped;
+use model::{SUCCESSFUL, Status};
 
-// The libraries of a search.
+// The libraries of a search. (Numbers and no enum: they are what hc_macro_find answers to C.)
 const NOWHERE: u32 = 0;
 
 const OWN: u32 = 1;
@@ -31,7 +32,8 @@ const LAST: usize = COUNTS + MOST_DEEP;
 
 const RUN: usize = LAST + 1;
 
-// The record of a `struct hc_macro_record`.
+// The record of a `struct hc_macro_record`. (No `From`, here and below: neither type is of this crate. Count by count: by `copy_from_slice` hc_macro_step is
+// 68 instructions and not 52.)
 fn runner_in(run: &[u32; RUN]) -> Runner
     ensures { result ≡ runner_in run.now }
 {
@@ -61,14 +63,23 @@ fn words_of(r: Runner) -> [u32; RUN]
     ]
 }
 
+// What came of a step or a run goes to C: the record's words, the answer, and as the result the status.
+fn give(s: Stepped, run: &mut [u32; RUN], answer: &mut u32) -> u32
+    ensures { (t : List ℕ) → exported_as result answer.new run.new t ≡ exported (took s.answer s.runner t) }
+{
+    *run = words_of(s.runner);
+    *answer = number_in(s.answer);
+    status_of(s.answer)
+}
+
 #[unsafe(no_mangle)]
 pub extern "C" fn hc_macro_check(steps: &[u32]) -> u32
     ensures { result ≡ check_status steps.now }
 {
     if macro_check::passes(steps) {
-        return status::SUCCESSFUL;
+        return SUCCESSFUL;
     }
-    status::number_of(Status::InvalidNumber)
+    Status::InvalidNumber.into()
 }
 
 #[unsafe(no_mangle)]
@@ -81,12 +92,8 @@ pub extern "C" fn hc_macro_step(
 ) -> u32
     ensures { exported_as result answer.new run.new table.new ≡ exported (stepped party steps.now (runner_in run.old) table.old) }
 {
-    let s = macros::step_value(steps, runner_in(run), table, party);
-    let said = s.answer;
-    let next = s.runner;
-    *run = words_of(next);
-    *answer = number_in(said);
-    status_of(said)
+    let stepped = macros::step_value(steps, runner_in(run), table, party);
+    give(stepped, run, answer)
 }
 
 #[unsafe(no_mangle)]
@@ -100,12 +107,8 @@ pub extern "C" fn hc_macro_run(
 ) -> u32
     ensures { exported_as result answer.new run.new table.new ≡ exported (ran_for party steps.now budget (runner_in run.old) table.old) }
 {
-    let s = macros::run(steps, runner_in(run), table, party, budget);
-    let ended = s.answer;
-    let after = s.runner;
-    *run = words_of(after);
-    *answer = number_in(ended);
-    status_of(ended)
+    let ran = macros::run(steps, runner_in(run), table, party, budget);
+    give(ran, run, answer)
 }
 
 #[unsafe(no_mangle)]
@@ -118,21 +121,12 @@ pub extern "C" fn hc_macro_find(
 ) -> u32
     ensures { located_at result offset.new words.new ≡ located (found_in own.now shared.now name) }
 {
-    match macro_library::find(own, shared, name) {
-        Found::Own(start, length) => {
-            *offset = start;
-            *words = length;
-            OWN
-        }
-        Found::Shared(start, length) => {
-            *offset = start;
-            *words = length;
-            SHARED
-        }
-        Found::Nowhere => {
-            *offset = 0;
-            *words = 0;
-            NOWHERE
-        }
-    }
+    let (library, steps) = match macro_library::find(own, shared, name) {
+        Some(Found::Own(steps)) => (OWN, steps),
+        Some(Found::Shared(steps)) => (SHARED, steps),
+        None => (NOWHERE, Stretch { start: 0, words: 0 }),
+    };
+    *offset = steps.start;
+    *words = steps.words;
+    library
 }

@@ -4,6 +4,7 @@ use mathlib.Core.Path.{◌≡◌, refl}
 use mathlib.Core.Bool.{true, false}
 use mathlib.Core.List.{List, [], ◌∷◌, ◌++◌, map}
 use lib.ListN.{replicate}
+use Rattle.std.specs.Prelude.{Some, None}
 use Rattle.macro_steps.specs.Steps.{bare, with_one, step_of, step_at}
 use Rattle.macro_steps.proofs.Cases.{arm, cancel, wait, check, repeats, end, sign}
 use Rattle.macro_check.specs.Passed.{nested, guarded, passed}
@@ -63,7 +64,6 @@ insides = refl
 
 -- a pass, at an inner place, at the end and past it
 pub scans : map (scanned_at nest) (2 ∷ 5 ∷ 6 ∷ [])
-    ≡ record { stands = true; blocks = 1 ∷ 2 ∷ replicate 6 0 } ∷ record { stands = true; blocks = replicate 8 0 }
-    ∷ record { stands = false; blocks = replicate 8 0 } ∷ []
+    ≡ Some (1 ∷ 2 ∷ replicate 6 0) ∷ Some (replicate 8 0) ∷ None ∷ []
 unfolding passed nested guarded opened blocks_of step_at step_of with_one bare
 scans = refl

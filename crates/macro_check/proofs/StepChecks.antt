@@ -12,7 +12,7 @@ use Rattle.laws.proofs.ListLaws.{clash}
 use Rattle.macro_steps.specs.Steps.{count, kind_at}
 use Rattle.macro_check.specs.Passed.{asks_check, followed, fine}
 use Rattle.macro_check.specs.Parts.{from, Scanning, Checked, AtEnd}
-use Rattle.macro_check.specs.declared.Reached.TheVariants.{Place}
+use Rattle.std.specs.Prelude.{Some}
 use Rattle.macro_check.proofs.BlockLaws.{inside, from_first, at_plain, at_open, at-deep, at_none, at-unchecked, at-end, open-at-last}
 use Rattle.macro_check.proofs.ScanLaws.{scan-plain, scan-open, scan-close}
 
@@ -34,7 +34,7 @@ module _ {ws : List ℕ} {at kind depth place : ℕ} {blocks : List ℕ} (h : at
   follows b e = ap (λ (k : ℕ). followed k (from ws (at + 1))) (sym is) ∙ rw (e, from_first ws (at + 1)) refl
 
   -- an arm or cancel, with its check
-  pub with-check : asks_check kind ≡ true → kind_at ws (at + 1) ≡ 4 → Checked (at + 1) at depth place ws blocks (Place (at + 2))
+  pub with-check : asks_check kind ≡ true → kind_at ws (at + 1) ≡ 4 → Checked (at + 1) at depth place ws blocks (Some (at + 2))
   with-check e c =
       let n = asked (kind_at ws at) (asked_here e) in
       let i : at + 1 < count ws = inside ws (at + 1) (λ z. omega arith) in
@@ -58,7 +58,7 @@ module _ {ws : List ℕ} {at kind depth place : ℕ} {blocks : List ℕ} (h : at
   without-check e c = at-unchecked ws at depth h (follows true e ∙ ne_eqb (kind_at ws (at + 1)) 4 c)
 
   -- a wait, check or sign
-  pub plain : asks_check kind ≡ false → (kind ≡ 0 → ⊥) → (kind ≡ 5 → ⊥) → (kind ≡ 6 → ⊥) → Checked (at + 1) at depth place ws blocks (Place (at + 1))
+  pub plain : asks_check kind ≡ false → (kind ≡ 0 → ⊥) → (kind ≡ 5 → ⊥) → (kind ≡ 6 → ⊥) → Checked (at + 1) at depth place ws blocks (Some (at + 1))
   plain e n0 n5 n6 = (
     omega arith,
     (
@@ -78,11 +78,11 @@ module _ {ws : List ℕ} {at kind depth place : ℕ} {blocks : List ℕ} (h : at
     pub block-is : fine depth (from ws at) ≡ fine (depth + 1) (from ws (at + 1))
     block-is = at_open ws at depth h (follows false e) (sym is ∙ k) l
 
-    pub never-ended : (j : ℕ) (bs : List ℕ) → Checked (at + 1) (at + 1) (depth + 1) place ws bs (Place j) → j ≡ count ws → fine depth (from ws at) ≡ false
+    pub never-ended : (j : ℕ) (bs : List ℕ) → Checked (at + 1) (at + 1) (depth + 1) place ws bs (Some j) → j ≡ count ws → fine depth (from ws at) ≡ false
     never-ended j bs w g = block-is ∙ w.1.1 ∙ open-at-last ws j (depth + 1) (omega arith) (λ z. omega arith)
 
-    pub block-ended : (j : ℕ) (bs cs : List ℕ) → Checked (at + 1) (at + 1) (depth + 1) place ws bs (Place j) → AtEnd ws (Place j) → (j ≡ count ws → ⊥)
-        → cs ≡ cond (ltb j place) (set bs depth 0) bs → Checked (at + 1) at depth place ws cs (Place (j + 1))
+    pub block-ended : (j : ℕ) (bs cs : List ℕ) → Checked (at + 1) (at + 1) (depth + 1) place ws bs (Some j) → AtEnd ws (Some j) → (j ≡ count ws → ⊥)
+        → cs ≡ cond (ltb j place) (set bs depth 0) bs → Checked (at + 1) at depth place ws cs (Some (j + 1))
     block-ended j bs cs w a n f =
         let m = w.0 in
         let v = w.1.0.within in

@@ -1,8 +1,7 @@
 -- Document 02, item 11: which repeats a place of a macro is inside. Assumes nothing: these are definitions.
-use Rattle.std.specs.Prelude.{ℕ, zero, suc, ◌+◌, ◌-◌, true, false, cond, ◌&&◌, List, [], ◌∷◌, ◌++◌, map, length, take, replicate, eqb, leb}
+use Rattle.std.specs.Prelude.{ℕ, zero, suc, ◌+◌, ◌-◌, cond, ◌&&◌, List, [], ◌∷◌, ◌++◌, map, length, take, replicate, eqb, leb, Option, Some, None}
 use Rattle.macro_steps.specs.Steps.{count, kind_at}
 use Rattle.macro_check.specs.Passed.{passed}
-use Rattle.macro_check.specs.declared.Scanned.{Scanned}
 
 -- the open repeats after a step of this kind at this place: a repeat opens one, an end closes the innermost. So a repeat's own place is outside it,
 -- and its end's inside.
@@ -19,7 +18,5 @@ unfoldable pub blocks_of : List ℕ → List ℕ
 blocks_of os = map (λ p. p + 1) os ++ replicate (8 - length os) 0
 
 -- what one pass finds: whether the macro is passed and has this place, or it is its end; and then the blocks that are open there
-abbrev pub scanned_at : List ℕ → ℕ → Scanned
-scanned_at ws place =
-    cond (passed ws && leb place (count ws)) (record { stands = true; blocks = blocks_of (opened ws place) })
-    (record { stands = false; blocks = replicate 8 0 })
+abbrev pub scanned_at : List ℕ → ℕ → Option (List ℕ)
+scanned_at ws place = cond (passed ws && leb place (count ws)) (Some (blocks_of (opened ws place))) None

@@ -1,11 +1,9 @@
 -- What the block checker and the step checker promise each other. A reader need not believe this: no public contract uses it. Assumes nothing: these
 -- are definitions.
-use Rattle.std.specs.Prelude.{ℕ, ◌-◌, ◌≤◌, ◌<◌, ◌≡◌, false, List, length}
+use Rattle.std.specs.Prelude.{ℕ, ◌-◌, ◌≤◌, ◌<◌, ◌≡◌, false, List, length, Option, Some, None}
 use Rattle.macro_steps.specs.Steps.{count, kind_at, kinds_from}
 use Rattle.macro_check.specs.Passed.{fine}
 use Rattle.macro_check.specs.Blocks.{opened, blocks_of}
-use Rattle.macro_check.specs.declared.Reached.{Reached}
-use Rattle.macro_check.specs.declared.Reached.TheVariants.{Place, Failed}
 
 -- the kinds from a place on
 abbrev pub from : List ℕ → ℕ → List ℕ
@@ -20,11 +18,11 @@ pub record Scanning (ws : List ℕ) (at depth place : ℕ) (blocks : List ℕ) :
   pub behind : place ≤ at → blocks ≡ blocks_of (opened ws place)
 
 -- a place further on, up to which all is well; or all is not
-abbrev pub Checked : ℕ → ℕ → ℕ → ℕ → List ℕ → List ℕ → Reached → Type 0
-Checked lo at depth place ws blocks (Place k) = (lo ≤ k) × (Scanning ws k depth place blocks × (fine depth (from ws at) ≡ fine depth (from ws k)))
-Checked lo at depth place ws blocks Failed = fine depth (from ws at) ≡ false
+abbrev pub Checked : ℕ → ℕ → ℕ → ℕ → List ℕ → List ℕ → Option ℕ → Type 0
+Checked lo at depth place ws blocks (Some k) = (lo ≤ k) × (Scanning ws k depth place blocks × (fine depth (from ws at) ≡ fine depth (from ws k)))
+Checked lo at depth place ws blocks None = fine depth (from ws at) ≡ false
 
 -- a block reaches to an end step, or to the macro's end
-abbrev pub AtEnd : List ℕ → Reached → Type 0
-AtEnd ws (Place k) = k < count ws → kind_at ws k ≡ 6
-AtEnd ws Failed = Unit {0}
+abbrev pub AtEnd : List ℕ → Option ℕ → Type 0
+AtEnd ws (Some k) = k < count ws → kind_at ws k ≡ 6
+AtEnd ws None = Unit {0}

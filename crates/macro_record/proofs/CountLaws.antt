@@ -13,12 +13,12 @@ use borrow.Author.Tests.{eqb-true, eqb-false, eq-eqb, ne_eqb, ltb-true, ltb-fals
 use Rattle.calendar.specs.Calendar.{all_of}
 use Rattle.model.specs.Lists.{all_from}
 use Rattle.laws.proofs.ListLaws.{cases, clash, both}
-use Rattle.macro_check.specs.declared.Scanned.{Scanned}
+use Rattle.std.specs.Prelude.{Option, Some, None}
 use Rattle.macro_steps.specs.Steps.{times_of, count, kind_at}
 use Rattle.macro_check.specs.Passed.{passed}
 use Rattle.macro_check.specs.Blocks.{opened, blocks_of, scanned_at}
 use Rattle.macro_check.proofs.BlockLaws.{past_end, most-steps}
-use Rattle.macro_check.proofs.OpenLaws.{opened-none, open_is, close-is, keep-is, room-to-open}
+use Rattle.macro_check.proofs.OpenLaws.{opened-none, open_is, close-is, keep-is, room-to-open, one-to-end}
 use Rattle.macro_check.proofs.ScanLaws.{block_at, no-block-at}
 use Rattle.macro_record.specs.Record.{runner_of, times_at, count_fits, counts_fit, ready, block_ended}
 use Rattle.macro_record.specs.Parts.{fits_block, fit_blocks, readiness_of, Standing}
@@ -75,12 +75,14 @@ fit_same ws os counts =
 
 -- ---- whether a record may be stepped
 
-module _ (ws : List ℕ) (place : ℕ) where
-  scan-true : (scanned_at ws place).stands ≡ true → (passed ws && leb place (count ws)) ≡ true
-  scan-true e = cases (passed ws && leb place (count ws)) (λ b. b) (λ b. clash (sym (rw b at e)))
+-- what a test gives says what the test was
+nothing-found : {A : Type 0} (x : A) (b : Bool) → None ≡ cond b (Some x) None → b ≡ false
+nothing-found x true e = absurd (grind (arith, e))
+nothing-found x false e = refl
 
-  scan-false : (scanned_at ws place).stands ≡ false → (passed ws && leb place (count ws)) ≡ false
-  scan-false e = cases (passed ws && leb place (count ws)) (λ b. clash (rw b at e)) (λ b. b)
+something-found : {A : Type 0} (x : A) {y : A} (b : Bool) → Some y ≡ cond b (Some x) None → (b ≡ true) × (y ≡ x)
+something-found x true e = (refl, grind (arith, e))
+something-found x false e = absurd (grind (arith, e))
 
 short_cut : (a b x : Bool) → (a && b) ≡ false → all_of (a ∷ b ∷ x ∷ []) ≡ false
 short_cut true b x e = rw e refl
@@ -92,53 +94,50 @@ last-test false b x e = clash (sym e)
 
 module _ (ws : List ℕ) (r : Runner) where
   -- what is found where a record may be stepped, and where it may not
-  abbrev found : Bool → Scanned
-  found b = cond b (record { stands = true; blocks = blocks_of (opened ws r.place) }) (record { stands = false; blocks = replicate 8 0 })
+  abbrev found : Bool → Option (List ℕ)
+  found b = cond b (Some (blocks_of (opened ws r.place))) None
 
-  module _ (s : Scanned) (is : s ≡ scanned_at ws r.place) where
-    stands-as : (scanned_at ws r.place).stands ≡ s.stands
-    stands-as = ap (λ (x : Scanned). x.stands) (sym is)
+  -- the pass says no
+  pub not-passed : None ≡ scanned_at ws r.place → None ≡ readiness_of ws r
+  unfolding ready
+  not-passed is =
+      let b = nothing-found _ (passed ws && leb r.place (count ws)) is in
+      sym (ap found (short_cut (passed ws) (leb r.place (count ws)) (counts_fit ws (opened ws r.place) r.counts) b))
 
-    -- the pass says no
-    pub not-passed : s.stands ≡ false → s ≡ readiness_of ws r
+  -- the pass says yes, and the counts decide
+  module _ {bs : List ℕ} (is : Some bs ≡ scanned_at ws r.place) where
+    by-counts : {f b : Bool} → f ≡ fit_blocks ws bs r.counts → f ≡ b → ready ws r ≡ b
     unfolding ready
-    not-passed e =
-        let b = scan-false ws r.place (stands-as ∙ e) in
-        is ∙ ap found b
-        ∙ sym (ap found (short_cut (passed ws) (leb r.place (count ws)) (counts_fit ws (opened ws r.place) r.counts) b))
+    by-counts g h =
+        let p = something-found _ (passed ws && leb r.place (count ws)) is in
+        last-test (passed ws) (leb r.place (count ws)) (counts_fit ws (opened ws r.place) r.counts) p.0
+        ∙ sym (fit_same ws (opened ws r.place) r.counts) ∙ sym (ap (λ (l : List ℕ). fit_blocks ws l r.counts) p.1) ∙ sym g ∙ h
 
-    -- the pass says yes, and the counts decide
-    by-counts : s.stands ≡ true → {f b : Bool} → f ≡ fit_blocks ws s.blocks r.counts → f ≡ b → ready ws r ≡ b
-    unfolding ready
-    by-counts e g h =
-        let p = scan-true ws r.place (stands-as ∙ e) in
-        let open-there : s.blocks ≡ blocks_of (opened ws r.place) = ap (λ (x : Scanned). x.blocks) (is ∙ ap found p) in
-        last-test (passed ws) (leb r.place (count ws)) (counts_fit ws (opened ws r.place) r.counts) p
-        ∙ sym (fit_same ws (opened ws r.place) r.counts) ∙ sym (ap (λ (l : List ℕ). fit_blocks ws l r.counts) open-there) ∙ sym g ∙ h
+    pub may-step : {f : Bool} → f ≡ fit_blocks ws bs r.counts → f ≡ true → Some bs ≡ readiness_of ws r
+    may-step g h = ap Some (something-found _ (passed ws && leb r.place (count ws)) is).1 ∙ sym (ap found (by-counts g h))
 
-    pub may-step : s.stands ≡ true → {f : Bool} → f ≡ fit_blocks ws s.blocks r.counts → f ≡ true → s ≡ readiness_of ws r
-    may-step e g h = is ∙ ap found (scan-true ws r.place (stands-as ∙ e)) ∙ sym (ap found (by-counts e g h))
+    pub may-not : {f : Bool} → f ≡ fit_blocks ws bs r.counts → f ≡ false → None ≡ readiness_of ws r
+    may-not g h = sym (ap found (by-counts g h))
 
-    pub may-not : s.stands ≡ true → {f : Bool} → f ≡ fit_blocks ws s.blocks r.counts → f ≡ false → found false ≡ readiness_of ws r
-    may-not e g h = sym (ap found (by-counts e g h))
+  -- what is found says whether a step may be taken
+  pub says_not : None ≡ readiness_of ws r → ready ws r ≡ false
+  says_not is = nothing-found _ (ready ws r) is
 
-  module _ (s : Scanned) (is : s ≡ readiness_of ws r) where
-    -- what is found says whether a step may be taken
-    pub says-ready : s.stands ≡ ready ws r
-    says-ready = ap (λ (x : Scanned). x.stands) is ∙ cases (ready ws r) (λ b. rw b refl) (λ b. rw b refl)
+  module _ {bs : List ℕ} (is : Some bs ≡ readiness_of ws r) where
+    pub says-ready : ready ws r ≡ true
+    says-ready = (something-found _ (ready ws r) is).0
 
     -- and then the blocks are those that are open
-    pub then-standing : s.stands ≡ true → Standing ws r s.blocks
+    pub then-standing : Standing ws r bs
     unfolding ready
-    then-standing e =
-        let yes : ready ws r ≡ true = sym says-ready ∙ e in
-        let p = both (passed ws) (all_of (leb r.place (count ws) ∷ counts_fit ws (opened ws r.place) r.counts ∷ [])) yes in
+    then-standing =
+        let p = both (passed ws) (all_of (leb r.place (count ws) ∷ counts_fit ws (opened ws r.place) r.counts ∷ [])) says-ready in
         let q = both (leb r.place (count ws)) (all_of (counts_fit ws (opened ws r.place) r.counts ∷ [])) p.1 in
         record {
           pass = p.0;
           few = most-steps ws p.0;
           within = leb-true r.place (count ws) q.0;
-          opens = ap (λ (x : Scanned). x.blocks) (is ∙ ap found yes);
+          opens = (something-found _ (ready ws r) is).1;
         }
 
 -- ---- how many blocks are open
@@ -190,6 +189,21 @@ module _ (ws : List ℕ) (pass : passed ws ≡ true) where
 
 -- ---- an end step
 
+-- the block of the innermost open repeat, and where it begins
+pub record Innermost (blocks os : List ℕ) (depth : ℕ) : Type 0 where
+  pub last : depth - 1 ≡ length os - 1
+  pub start : get_or blocks (depth - 1) 0 ≡ get_or os (depth - 1) 0 + 1
+
+pub innermost : (ws : List ℕ) (r : Runner) (blocks : List ℕ) → Standing ws r blocks → kind_at ws r.place ≡ 6 → (depth : ℕ)
+    → depth ≡ length (opened ws r.place) → Innermost blocks (opened ws r.place) depth
+innermost ws r blocks s k depth d =
+    let os = opened ws r.place in
+    let some = one-to-end ws s.pass r.place k in
+    record {
+      last = omega arith;
+      start = ap (λ (l : List ℕ). get_or l (depth - 1) 0) s.opens ∙ block_at os (depth - 1) (omega arith);
+    }
+
 pub times-inside : (ws : List ℕ) (i : ℕ) → 0 < times_at ws i → i < count ws
 times-inside ws i h =
     cases (ltb i (count ws))
@@ -212,3 +226,6 @@ module _ (ws os : List ℕ) (r : Runner) (depth start : ℕ) (d : depth ≡ leng
   goes_on h =
       let l : times_at ws (get_or os depth 0) ≤ get_or r.counts depth 0 = subst (λ (n : ℕ). n ≤ get_or r.counts depth 0) times-are h in
       sym (rw (sym d, le-ltb (get_or r.counts depth 0) (times_at ws (get_or os depth 0)) l) refl)
+
+-- what the open repeats' number is at a repeat and at an end
+pub ruleset depths = (few-open, room-to-open, one-to-end)

@@ -1,9 +1,8 @@
 -- What `readiness` finds, what `after` asks for, and what the private functions promise. Who uses crate `macros` need not believe this: no contract
 -- there uses it. Assumes nothing: these are definitions.
-use Rattle.std.specs.Prelude.{ℕ, ◌-◌, ◌≤◌, ◌≡◌, Bool, true, false, cond, List, [], ◌∷◌, get_or, replicate, eqb, leb}
+use Rattle.std.specs.Prelude.{ℕ, ◌-◌, ◌≤◌, ◌≡◌, Bool, true, cond, List, [], ◌∷◌, get_or, eqb, leb, Option, Some, None}
 use Rattle.calendar.specs.Calendar.{all_of}
 use Rattle.model.specs.Lists.{all_from}
-use Rattle.macro_check.specs.declared.Scanned.{Scanned}
 use Rattle.macro_steps.specs.Steps.{count}
 use Rattle.macro_check.specs.Passed.{passed}
 use Rattle.macro_check.specs.Blocks.{opened, blocks_of}
@@ -18,9 +17,8 @@ unfoldable pub fit_blocks : List ℕ → List ℕ → List ℕ → Bool
 fit_blocks ws blocks counts = all_from (λ j. fits_block ws (get_or blocks j 0) (get_or counts j 0)) 0 8
 
 -- whether a step may be taken on a record, and then the blocks that are open at its place
-abbrev pub readiness_of : List ℕ → Runner → Scanned
-readiness_of ws r =
-    cond (ready ws r) (record { stands = true; blocks = blocks_of (opened ws r.place) }) (record { stands = false; blocks = replicate 8 0 })
+abbrev pub readiness_of : List ℕ → Runner → Option (List ℕ)
+readiness_of ws r = cond (ready ws r) (Some (blocks_of (opened ws r.place))) None
 
 -- the place of a record is one of a macro that is passed, or its end, and these blocks are open there
 pub record Standing (ws : List ℕ) (r : Runner) (blocks : List ℕ) : Type 0 where

@@ -4,15 +4,12 @@
 // 9 waits for a timer that is not there, and is stopped. The macro 6 arms one that is not there, and its check stops it. Nobody has the macro 5.
 #![tactic(auto)]
 
-ghost use Rattle.std.specs.Prelude.{◌≡◌, ◌+◌, ◌≤◌, length};
-ghost use Rattle.macros.specs.Stepping.{stepped, took};
+ghost use Rattle.std.specs.Prelude.{◌≡◌, ◌+◌, ◌*◌, ◌≤◌, length};
 
-use answers::{Answer, number_in, status_of};
-use macro_check::MOST_DEEP;
+use answers::{number_in, status_of};
 use macro_library::ENTRY_HEAD;
 use macro_record::Runner;
-use macro_steps::{ARM, CANCEL, CHECK, END, REPEAT, SIGN, STEP_WORDS, WAIT};
-use macros::Stepped;
+use macro_steps::{STEP_WORDS, StepKind};
 use std::io;
 use table::{ONE_PARTY, PARTY_1};
 
@@ -35,14 +32,9 @@ const OWN: usize = 3 * ENTRY_HEAD + 10 * STEP_WORDS;
 
 const SHARED: usize = 2 * ENTRY_HEAD + 9 * STEP_WORDS;
 
-// A macro's name and the number of its steps go into a library. Gives the place behind them.
-fn put_head(library: &mut [u32], at: usize, name: u32, steps: u32) -> usize
-    requires { at + 2 ≤ length library.old }
-    ensures { result ≡ at + 2 }
-{
-    library[at] = name;
-    library[at + 1] = steps;
-    at + ENTRY_HEAD
+// The words of a step.
+fn step(kind: StepKind, [a, b, c, d]: [u32; 4]) -> [u32; STEP_WORDS] {
+    [kind.into(), a, b, c, d]
 }
 
 // A step goes into a library. Gives the place behind it.
@@ -50,105 +42,104 @@ fn put_step(library: &mut [u32], at: usize, step: [u32; STEP_WORDS]) -> usize
     requires { at + 5 ≤ length library.old }
     ensures { result ≡ at + 5 }
 {
-    let mut i = 0;
-    while i < STEP_WORDS {
-        library[at + i] = step[i];
-        i += 1;
-    }
-    at + STEP_WORDS
+    let end = at + STEP_WORDS;
+    library[at..end].copy_from_slice(&step);
+    end
 }
 
-// The macro 7 of the bench.
-fn put_guarded(library: &mut [u32], at: usize) -> usize
-    requires { at + 27 ≤ length library.old }
-    ensures { result ≡ at + 27 }
+// A macro goes into a library: its name, the number of its steps, and the steps. Gives the place behind it.
+fn put_macro<const N: usize>(
+    library: &mut [u32],
+    at: usize,
+    name: u32,
+    steps: [[u32; STEP_WORDS]; N],
+) -> usize
+    requires steps { N ≤ 256 }
+    requires library { at + 2 + 5 * N ≤ length library.old }
+    ensures { result ≡ at + 2 + 5 * N }
 {
-    let at = put_head(library, at, 7, 5);
-    let at = put_step(library, at, [ARM, GUARD, 9, 7, 70]);
-    let at = put_step(library, at, [CHECK, 0, 0, 0, 0]);
-    let at = put_step(library, at, [CANCEL, GUARD, 0, 0, 0]);
-    let at = put_step(library, at, [CHECK, 0, 0, 0, 0]);
-    put_step(library, at, [SIGN, 0, 0, 0, 0])
+    library[at] = name;
+    library[at + 1] = N as u32;
+    let mut end = at + ENTRY_HEAD;
+    for step in steps {
+        end = put_step(library, end, step);
+    }
+    end
 }
 
 // The bench's own library: the macros 7, 6 and 9.
 fn own_library() -> [u32; OWN] {
     let mut library = [0; OWN];
-    let at = put_guarded(&mut library, 0);
-    let at = put_head(&mut library, at, 6, 3);
-    let at = put_step(&mut library, at, [ARM, NOBODY, 2, 7, 70]);
-    let at = put_step(&mut library, at, [CHECK, 0, 0, 0, 0]);
-    let at = put_step(&mut library, at, [SIGN, 0, 0, 0, 0]);
-    let at = put_head(&mut library, at, 9, 2);
-    let at = put_step(&mut library, at, [WAIT, NOBODY, 0, 0, 0]);
-    put_step(&mut library, at, [SIGN, 0, 0, 0, 0]);
+    let at = put_macro(
+        &mut library,
+        0,
+        7,
+        [
+            step(StepKind::Arm, [GUARD, 9, 7, 70]),
+            step(StepKind::Check, [0; 4]),
+            step(StepKind::Cancel, [GUARD, 0, 0, 0]),
+            step(StepKind::Check, [0; 4]),
+            step(StepKind::Sign, [0; 4]),
+        ],
+    );
+    let at = put_macro(
+        &mut library,
+        at,
+        6,
+        [
+            step(StepKind::Arm, [NOBODY, 2, 7, 70]),
+            step(StepKind::Check, [0; 4]),
+            step(StepKind::Sign, [0; 4]),
+        ],
+    );
+    put_macro(
+        &mut library,
+        at,
+        9,
+        [
+            step(StepKind::Wait, [NOBODY, 0, 0, 0]),
+            step(StepKind::Sign, [0; 4]),
+        ],
+    );
     library
-}
-
-// The macro 8.
-fn put_waiting(library: &mut [u32], at: usize) -> usize
-    requires { at + 42 ≤ length library.old }
-    ensures { result ≡ at + 42 }
-{
-    let at = put_head(library, at, 8, 8);
-    let at = put_step(library, at, [REPEAT, 2, 0, 0, 0]);
-    let at = put_step(library, at, [REPEAT, 2, 0, 0, 0]);
-    let at = put_step(library, at, [ARM, GUARD, 3, 7, 71]);
-    let at = put_step(library, at, [CHECK, 0, 0, 0, 0]);
-    let at = put_step(library, at, [WAIT, GUARD, 0, 0, 0]);
-    let at = put_step(library, at, [END, 0, 0, 0, 0]);
-    let at = put_step(library, at, [END, 0, 0, 0, 0]);
-    put_step(library, at, [SIGN, 0, 0, 0, 0])
 }
 
 // The shared library: a macro 7 that signs, and the macro 8.
 fn shared_library() -> [u32; SHARED] {
     let mut library = [0; SHARED];
-    let at = put_head(&mut library, 0, 7, 1);
-    let at = put_step(&mut library, at, [SIGN, 0, 0, 0, 0]);
-    put_waiting(&mut library, at);
+    let at = put_macro(&mut library, 0, 7, [step(StepKind::Sign, [0; 4])]);
+    put_macro(
+        &mut library,
+        at,
+        8,
+        [
+            step(StepKind::Repeat, [2, 0, 0, 0]),
+            step(StepKind::Repeat, [2, 0, 0, 0]),
+            step(StepKind::Arm, [GUARD, 3, 7, 71]),
+            step(StepKind::Check, [0; 4]),
+            step(StepKind::Wait, [GUARD, 0, 0, 0]),
+            step(StepKind::End, [0; 4]),
+            step(StepKind::End, [0; 4]),
+            step(StepKind::Sign, [0; 4]),
+        ],
+    );
     library
 }
 
-// Prints the line of a step.
-fn line(rt: &impl Print, name: u32, answer: Answer, r: Runner) -> io::Result<()> {
-    println!(rt;
-        "{name} {} {} {} {}",
-        status_of(answer),
-        number_in(answer),
-        r.place,
-        r.last
-    )
-}
-
-// One step on a record that is lent for it.
-fn lend(r: Runner, words: &[u32], table: &mut [u32], party: u32) -> Stepped
-    ensures { took result.answer result.runner table.new ≡ stepped party words.now r table.old }
-{
-    let mut lent = r;
-    let answer = macros::step(&mut lent, words, table, party);
-    Stepped {
-        answer: answer,
-        runner: lent,
-    }
-}
-
-// So many steps of a macro from a fresh record, with a tick after each.
+// So many steps of a macro from a fresh record, which is lent for each, with a tick and a line after each.
 fn run(rt: &impl Print, name: u32, words: &[u32], table: &mut [u32], steps: u32) -> io::Result<()> {
     let mut fired = [0u32; LIST];
-    let mut r = Runner {
-        place: 0,
-        counts: [0; MOST_DEEP],
-        last: 0,
-    };
-    let mut i = 0;
-    while i < steps {
-        let s = lend(r, words, table, PARTY_1);
-        let answer = s.answer;
-        r = s.runner;
-        line(rt, name, answer, r)?;
-        clock::tick(table, &mut fired);
-        i += 1;
+    let mut r = Runner::default();
+    for _ in 0..steps {
+        let answer = macros::step(&mut r, words, table, PARTY_1);
+        println!(rt;
+            "{name} {} {} {} {}",
+            status_of(answer),
+            number_in(answer),
+            r.place,
+            r.last
+        )?;
+        let _ = clock::tick(table, &mut fired);
     }
     Ok(())
 }
@@ -169,8 +160,8 @@ fn run_all<'a>(
 
 fn main(rt: HostRuntime) -> io::Result<()> {
     let mut table = [0u32; TABLE];
-    timer::lay_out(&mut table, SLOTS, TICKS_PER_SECOND, ONE_PARTY);
-    timer::create(&mut table, PARTY_1, 1);
+    let _ = timer::lay_out(&mut table, SLOTS, TICKS_PER_SECOND, ONE_PARTY);
+    let _ = timer::create(&mut table, PARTY_1, 1);
     let own = own_library();
     let shared = shared_library();
     run_all(&rt, &own, &shared, &mut table)

@@ -4,6 +4,7 @@
 ghost use Rattle.std.specs.Prelude.{◌≡◌, [], ◌∷◌, eqb};
 ghost use Rattle.calendar.specs.Calendar.{all_of};
 ghost use Rattle.macro_steps.specs.Steps.{bare, with_one, step_of, count, step_at, kind_of, kind_at, times_of};
+ghost use Rattle.macro_steps.specs.StepKinds.{number_of};
 
 // Words in a step.
 pub const STEP_WORDS: usize = 5;
@@ -11,26 +12,46 @@ pub const STEP_WORDS: usize = 5;
 // How many times a repeat repeats, at most.
 const MOST_TIMES: u32 = 100;
 
-// The kinds of steps; 0 is none.
-pub const NO_STEP: u32 = 0;
+// The kinds of steps, by their numbers; 0 is none.
+#[derive(Clone, Copy, Debug, PartialEq, Eq)]
+pub enum StepKind {
+    NoStep = 0,
+    Arm = 1,
+    Cancel = 2,
+    Wait = 3,
+    Check = 4,
+    Repeat = 5,
+    End = 6,
+    Sign = 7,
+}
 
-pub const ARM: u32 = 1;
+impl From<StepKind> for u32 {
+    ghost from_gives = { λ k n. n ≡ number_of k };
 
-pub const CANCEL: u32 = 2;
+    fn from(kind: StepKind) -> u32 {
+        kind as u32
+    }
+}
 
-pub const WAIT: u32 = 3;
+// A step's first word. (Numbers in what reads it, and no `StepKind::try_from`: by that the checker and a step jump through a register, which tests/stack.py
+// lets them nowhere.)
+const ARM: u32 = StepKind::Arm as u32;
 
-pub const CHECK: u32 = 4;
+const CANCEL: u32 = StepKind::Cancel as u32;
 
-pub const REPEAT: u32 = 5;
+const WAIT: u32 = StepKind::Wait as u32;
 
-pub const END: u32 = 6;
+const CHECK: u32 = StepKind::Check as u32;
 
-pub const SIGN: u32 = 7;
+const REPEAT: u32 = StepKind::Repeat as u32;
+
+const END: u32 = StepKind::End as u32;
+
+const SIGN: u32 = StepKind::Sign as u32;
 
 // A step with its arguments: arm has id, ticks, routine and data; cancel and wait an id; repeat how many times. `NoStep` is words that have none of
 // these forms, and a place past the last step.
-#[derive(Clone, Copy)]
+#[derive(Clone, Copy, Debug, PartialEq, Eq)]
 pub enum Step {
     Arm(u32, u32, u32, u32),
     Cancel(u32),
@@ -43,70 +64,50 @@ pub enum Step {
 }
 
 // The step of a kind without arguments.
+#[tactic(auto, unfolding(crate::specs::Steps::bare))]
 fn bare_step(kind: u32) -> Step
     ensures { result ≡ bare kind }
 {
-    if kind == CHECK {
-        return Step::Check;
+    match kind {
+        CHECK => Step::Check,
+        END => Step::End,
+        SIGN => Step::Sign,
+        _ => Step::NoStep,
     }
-    if kind == END {
-        return Step::End;
-    }
-    if kind == SIGN {
-        return Step::Sign;
-    }
-    Step::NoStep
 }
 
 // The step of a kind and one argument.
+#[tactic(auto, unfolding(crate::specs::Steps::with_one))]
 fn step_with(kind: u32, a: u32) -> Step
     ensures { result ≡ with_one kind a }
 {
-    if kind == CANCEL {
-        return Step::Cancel(a);
+    match kind {
+        CANCEL => Step::Cancel(a),
+        WAIT => Step::Wait(a),
+        REPEAT if (1..=MOST_TIMES).contains(&a) => Step::Repeat(a),
+        REPEAT => Step::NoStep,
+        _ if a != 0 => Step::NoStep,
+        _ => bare_step(kind),
     }
-    if kind == WAIT {
-        return Step::Wait(a);
-    }
-    if kind == REPEAT {
-        if a < 1 {
-            return Step::NoStep;
-        }
-        if MOST_TIMES < a {
-            return Step::NoStep;
-        }
-        return Step::Repeat(a);
-    }
-    if a != 0 {
-        return Step::NoStep;
-    }
-    bare_step(kind)
 }
 
 // Three words are zero.
 fn is_fill(b: u32, c: u32, d: u32) -> bool
     ensures { result ≡ all_of (eqb b 0 ∷ eqb c 0 ∷ eqb d 0 ∷ []) }
 {
-    if b != 0 {
-        return false;
-    }
-    if c != 0 {
-        return false;
-    }
-    d == 0
+    b == 0 && c == 0 && d == 0
 }
 
-// The step of five words.
+// The step of five words. (Five numbers and no array, as `step_of` of specs/Steps.antt takes them.)
+#[tactic(auto, unfolding(crate::specs::Steps::step_of))]
 fn step_of(kind: u32, a: u32, b: u32, c: u32, d: u32) -> Step
     ensures { result ≡ step_of kind a b c d }
 {
-    if kind == ARM {
-        return Step::Arm(a, b, c, d);
+    match kind {
+        ARM => Step::Arm(a, b, c, d),
+        _ if is_fill(b, c, d) => step_with(kind, a),
+        _ => Step::NoStep,
     }
-    if !is_fill(b, c, d) {
-        return Step::NoStep;
-    }
-    step_with(kind, a)
 }
 
 // How many steps the words are.
@@ -117,6 +118,7 @@ pub fn step_count(words: &[u32]) -> usize
 }
 
 // The step at a place.
+#[tactic(auto, unfolding(crate::specs::Steps::step_at))]
 pub fn step_at(words: &[u32], at: usize) -> Step
     ensures { result ≡ step_at words.now at }
 {
@@ -133,19 +135,19 @@ pub fn step_at(words: &[u32], at: usize) -> Step
     )
 }
 
-// The number of a step's kind.
-fn kind_of(step: Step) -> u32
-    ensures { result ≡ kind_of step }
+// A step's kind.
+fn kind_of(step: Step) -> StepKind
+    ensures { number_of result ≡ kind_of step }
 {
     match step {
-        Step::Arm(_, _, _, _) => ARM,
-        Step::Cancel(_) => CANCEL,
-        Step::Wait(_) => WAIT,
-        Step::Check => CHECK,
-        Step::Repeat(_) => REPEAT,
-        Step::End => END,
-        Step::Sign => SIGN,
-        Step::NoStep => NO_STEP,
+        Step::Arm(..) => StepKind::Arm,
+        Step::Cancel(_) => StepKind::Cancel,
+        Step::Wait(_) => StepKind::Wait,
+        Step::Check => StepKind::Check,
+        Step::Repeat(_) => StepKind::Repeat,
+        Step::End => StepKind::End,
+        Step::Sign => StepKind::Sign,
+        Step::NoStep => StepKind::NoStep,
     }
 }
 
@@ -154,20 +156,14 @@ pub fn times_of(step: Step) -> u32
     ensures { result ≡ times_of step }
 {
     match step {
-        Step::Arm(_, _, _, _) => 0,
-        Step::Cancel(_) => 0,
-        Step::Wait(_) => 0,
-        Step::Check => 0,
         Step::Repeat(times) => times,
-        Step::End => 0,
-        Step::Sign => 0,
-        Step::NoStep => 0,
+        _ => 0,
     }
 }
 
 // The kind of the step at a place.
-pub fn kind_at(words: &[u32], at: usize) -> u32
-    ensures { result ≡ kind_at words.now at }
+pub fn kind_at(words: &[u32], at: usize) -> StepKind
+    ensures { number_of result ≡ kind_at words.now at }
 {
     kind_of(step_at(words, at))
 }

@@ -8,8 +8,9 @@ use lib.Dec.{leb}
 use native.Mathlib.Omega.{arith}
 use Rattle.model.specs.Outcome.{Outcome, outcome_of}
 use Rattle.laws.proofs.ListLaws.{cases, all-at}
-use Rattle.answers.specs.declared.Answer.{Answer}
-use Rattle.answers.specs.declared.Answer.TheVariants.{Done}
+use Rattle.model.specs.declared.Status.{Status}
+use Rattle.std.specs.declared.result.Result.{Result}
+use Rattle.std.specs.declared.result.Result.TheVariants.{Ok}
 use Rattle.answers.specs.Answers.{status_of, answer_of}
 use Rattle.macro_steps.specs.declared.Step.{Step}
 use Rattle.macro_steps.specs.Steps.{count, step_at}
@@ -39,9 +40,9 @@ module _ (party : ℕ) (ws : List ℕ) (r : Runner) (t : List ℕ) where
   unfolding stepped
   step_is e s f = rw (e, f) refl
 
-  pub acts : (a : Answer) (s : Step) (n status number : ℕ) (q : Runner) (u : List ℕ) → ready ws r ≡ true → s ≡ step_at ws r.place
+  pub acts : (a : Result ℕ Status) (s : Step) (n status number : ℕ) (q : Runner) (u : List ℕ) → ready ws r ≡ true → s ≡ step_at ws r.place
       → outcome_of (status_of a) (answer_of a) u [] ≡ asked t (calls_of party s) → status ≡ status_of a → number ∷ [] ≡ answer_of a
-      → n ≡ sign_of s → q ≡ moved ws r status number s → took (Done n) q u ≡ stepped party ws r t
+      → n ≡ sign_of s → q ≡ moved ws r status number s → took (Ok n) q u ≡ stepped party ws r t
   acts a s n status number q u e f o st num sign next =
       let es : status ≡ (asked t (calls_of party s)).status = st ∙ ap (λ (x : Outcome). x.status) o in
       let en : number ≡ get_or (asked t (calls_of party s)).answer 0 0 = ap (λ (l : List ℕ). get_or l 0 0) (num ∙ ap (λ (x : Outcome). x.answer) o) in

@@ -5,7 +5,8 @@ use Rattle.model.specs.declared.Status.TheVariants.{InvalidNumber}
 use Rattle.model.specs.Status.{number_of}
 use Rattle.model.specs.Calls.{Call, cancel, fire_after, ticks_left}
 use Rattle.model.specs.Outcome.{Outcome, outcome_of, outcome}
-use Rattle.answers.specs.declared.Answer.{Answer}
+use Rattle.model.specs.declared.Status.{Status}
+use Rattle.std.specs.declared.result.Result.{Result}
 use Rattle.answers.specs.Answers.{status_of, answer_of}
 use Rattle.macro_steps.specs.declared.Step.{Step}
 use Rattle.macro_steps.specs.declared.Step.TheVariants.{Arm, Cancel, Wait, Check, Repeat, End, Sign, NoStep}
@@ -64,5 +65,5 @@ unfoldable pub stepped : ℕ → List ℕ → Runner → List ℕ → Taken
 stepped party ws r t = cond (ready ws r) (acted party ws r t (step_at ws r.place)) (not_taken r t)
 
 -- what the code answers, in these numbers
-abbrev pub took : Answer → Runner → List ℕ → Taken
+abbrev pub took : Result ℕ Status → Runner → List ℕ → Taken
 took a r t = taken_as (status_of a) (answer_of a) r t

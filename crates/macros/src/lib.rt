@@ -10,23 +10,22 @@ ghost use Rattle.macros.specs.Stepping.{calls_of, asked, sign_of, stepped, took}
 ghost use Rattle.macros.specs.Runs.{stops, ran_for};
 ghost use Rattle.macros.specs.Parts.{refused_as};
 
-use answers::{Answer, number_in, status_of};
-use macro_record::{Runner, after, readiness};
-use macro_steps::{END, Step, kind_at, step_at};
-use model::Status;
+use answers::{number_in, status_of};
+use macro_record::{Position, Runner, readiness};
+use macro_steps::{Step, StepKind, kind_at, step_at};
+use model::{SUCCESSFUL, Status};
 use starts::fire_after;
-use status::SUCCESSFUL;
 use timer::{cancel, ticks_left};
 
 // What a step answers, and the record after it.
-#[derive(Clone, Copy)]
+#[derive(Clone, Copy, Debug, PartialEq, Eq)]
 pub struct Stepped {
-    pub answer: Answer,
+    pub answer: Result<u32, Status>,
     pub runner: Runner,
 }
 
 // What the manager answers to an arm, cancel or wait, called as the host's party; nothing, to any other step.
-fn ask(table: &mut [u32], party: u32, step: Step) -> Answer
+fn ask(table: &mut [u32], party: u32, step: Step) -> Result<u32, Status>
     ensures { outcome_of (status_of result) (answer_of result) table.new [] ≡ asked table.old (calls_of party step) }
 {
     match step {
@@ -35,11 +34,7 @@ fn ask(table: &mut [u32], party: u32, step: Step) -> Answer
         ),
         Step::Cancel(id) => cancel(table, party, id),
         Step::Wait(id) => ticks_left(table, party, id),
-        Step::Check => Answer::Done(0),
-        Step::Repeat(_) => Answer::Done(0),
-        Step::End => Answer::Done(0),
-        Step::Sign => Answer::Done(0),
-        Step::NoStep => Answer::Done(0),
+        _ => Ok(0),
     }
 }
 
@@ -47,16 +42,7 @@ fn ask(table: &mut [u32], party: u32, step: Step) -> Answer
 fn sign_of(step: Step) -> u32
     ensures { result ≡ sign_of step }
 {
-    match step {
-        Step::Arm(_, _, _, _) => 0,
-        Step::Cancel(_) => 0,
-        Step::Wait(_) => 0,
-        Step::Check => 0,
-        Step::Repeat(_) => 0,
-        Step::End => 0,
-        Step::Sign => 1,
-        Step::NoStep => 0,
-    }
+    u32::from(matches!(step, Step::Sign))
 }
 
 // A step that is refused, and the record as it was.
@@ -64,7 +50,7 @@ fn refused(r: Runner) -> Stepped
     ensures { result ≡ refused_as r }
 {
     Stepped {
-        answer: Answer::Refused(Status::InvalidNumber),
+        answer: Err(Status::InvalidNumber),
         runner: r,
     }
 }
@@ -73,21 +59,29 @@ fn refused(r: Runner) -> Stepped
 pub fn step_value(words: &[u32], r: Runner, table: &mut [u32], party: u32) -> Stepped
     ensures { took result.answer result.runner table.new ≡ stepped party words.now r table.old }
 {
-    let ready = readiness(words, r);
-    if !ready.stands {
+    let Some(blocks) = readiness(words, r) else {
         return refused(r);
-    }
+    };
+    let position = Position {
+        words,
+        runner: r,
+        blocks,
+    };
     let step = step_at(words, r.place as usize);
     let answer = ask(table, party, step);
-    let blocks = ready.blocks;
     Stepped {
-        answer: Answer::Done(sign_of(step)),
-        runner: after(words, r, blocks, step, status_of(answer), number_in(answer)),
+        answer: Ok(sign_of(step)),
+        runner: position.after(step, status_of(answer), number_in(answer)),
     }
 }
 
 // One step of a macro, on a record that the host lends.
-pub fn step(runner: &mut Runner, words: &[u32], table: &mut [u32], party: u32) -> Answer
+pub fn step(
+    runner: &mut Runner,
+    words: &[u32],
+    table: &mut [u32],
+    party: u32,
+) -> Result<u32, Status>
     ensures { took result runner.new table.new ≡ stepped party words.now runner.old table.old }
 {
     let s = step_value(words, *runner, table, party);
@@ -99,18 +93,9 @@ pub fn step(runner: &mut Runner, words: &[u32], table: &mut [u32], party: u32) -
 fn stops_at(words: &[u32], r: Runner, s: Stepped) -> bool
     ensures { result ≡ stops words.now r (took s.answer s.runner []) }
 {
-    let answer = s.answer;
-    let next = s.runner;
-    if status_of(answer) != SUCCESSFUL {
-        return true;
-    }
-    if number_in(answer) == 1 {
-        return true;
-    }
-    if next.place != r.place {
-        return false;
-    }
-    kind_at(words, r.place as usize) != END
+    status_of(s.answer) != SUCCESSFUL
+        || number_in(s.answer) == 1
+        || (s.runner.place == r.place && kind_at(words, r.place as usize) != StepKind::End)
 }
 
 // So many steps of a macro at most, with the record by value, until one ends the run.
@@ -118,17 +103,15 @@ pub fn run(words: &[u32], r: Runner, table: &mut [u32], party: u32, budget: u32)
     ensures { took result.answer result.runner table.new ≡ ran_for party words.now budget r table.old }
 {
     let mut at = r;
-    let mut left = budget;
-    while 0 < left {
+    for _turn in 0..budget {
         let s = step_value(words, at, table, party);
         if stops_at(words, at, s) {
             return s;
         }
         at = s.runner;
-        left -= 1;
     }
     Stepped {
-        answer: Answer::Done(0),
+        answer: Ok(0),
         runner: at,
     }
 }

@@ -5,8 +5,7 @@ use Prim.Native.Nat.{ℕ}
 use mathlib.Core.List.{List, [], ◌∷◌, ◌++◌, map}
 use lib.ListN.{replicate}
 use Rattle.calendar.specs.declared.WallTime.{WallTime}
-use Rattle.calendar.specs.declared.Instant.{Instant}
-use Rattle.calendar.specs.declared.Instant.TheVariants.{Second, NotValid}
+use Rattle.std.specs.Prelude.{Option, Some, None}
 use Rattle.calendar.specs.Calendar.{months_of, years, valid, seconds_of, instant_of}
 use Rattle.model.specs.Calls.{Call, lay_out, create, cancel, fire_after, fire_when, reset, ticks_left, tick, set_clock}
 use Rattle.model.specs.Sound.{header_sound, slot_sound, chain_sound, ticks_sound, dates_sound, queue_sound, sound}
@@ -15,7 +14,7 @@ use Rattle.model.specs.Outcome.{status_on, outcome, after}
 -- A date and what it is in seconds; or calls on a slice, each with the status and the answer that it gives and the list that it leaves, and the
 -- words that they all leave.
 pub data Case : Type 0 where
-  day : WallTime → Instant → Case
+  day : WallTime → Option ℕ → Case
   calls : List ℕ → List Call → List (List ℕ) → List (List ℕ) → List ℕ → Case
 
 abbrev pub lines : List ℕ → List Call → List (List ℕ)
@@ -59,14 +58,14 @@ clocked_lines = (0 ∷ 0 ∷ []) ∷ (0 ∷ 0 ∷ []) ∷ (0 ∷ 302055425 ∷ [
 
 abbrev pub starred_cases : List Case
 starred_cases =
-    day (date 1988 1 1 0 0 0) (Second 0)
-    ∷ day (date 1988 2 29 0 0 0) (Second 5097600)
-    ∷ day (date 1989 1 1 0 0 0) (Second 31622400)
-    ∷ day (date 2000 1 1 0 0 0) (Second 378691200)
-    ∷ day (date 2099 12 31 23 59 59) (Second 3534451199)
-    ∷ day (date 1989 2 29 0 0 0) NotValid
-    ∷ day (date 1999 12 31 23 59 60) NotValid
-    ∷ day (date 2100 1 1 0 0 0) NotValid
+    day (date 1988 1 1 0 0 0) (Some 0)
+    ∷ day (date 1988 2 29 0 0 0) (Some 5097600)
+    ∷ day (date 1989 1 1 0 0 0) (Some 31622400)
+    ∷ day (date 2000 1 1 0 0 0) (Some 378691200)
+    ∷ day (date 2099 12 31 23 59 59) (Some 3534451199)
+    ∷ day (date 1989 2 29 0 0 0) None
+    ∷ day (date 1999 12 31 23 59 60) None
+    ∷ day (date 2100 1 1 0 0 0) None
     -- The session. Word 5 is 1; the waits are 5 and 0.
     ∷ calls (replicate 34 0) opening opening_lines (unlent 5)
     (3 ∷ 10 ∷ 0 ∷ 0 ∷ 0 ∷ 1 ∷ 0 ∷ 0 ∷ 0 ∷ 0

@@ -3,7 +3,6 @@
 use mathlib.Core.Path.{◌≡◌, refl, sym, ap, subst}
 use Prim.Native.Nat.{ℕ, zero, suc, ◌+◌}
 use mathlib.Core.Bool.{Bool, true, false, not}
-use mathlib.Core.Option.{none}
 use mathlib.Core.List.{List, [], ◌∷◌, ◌++◌, map}
 use lib.ListN.{replicate, get_or, set, drop}
 use lib.Dec.{eqb}
@@ -16,7 +15,7 @@ use Rattle.model.specs.State.{id_base}
 use Rattle.model.specs.Words.{read}
 use Rattle.model.specs.Directives.{refusals}
 use Rattle.model.specs.Sound.{header_sound, slot_sound, chain_sound, ticks_sound, dates_sound, queue_sound, sound}
-use Rattle.model.specs.Outcome.{status_on, outcome, after}
+use Rattle.model.specs.Outcome.{status_on, outcome}
 use Rattle.model.proofs.Cases.{Case, calls, computed, date, unlent}
 use Rattle.model.proofs.WorkedCases.{one, two, three, no, yes}
 use Rattle.model.proofs.EveryKind.{every_kind}

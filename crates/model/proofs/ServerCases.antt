@@ -7,7 +7,6 @@ use Rattle.calendar.specs.declared.WallTime.{WallTime}
 use Rattle.calendar.specs.Calendar.{months_of, years, valid, seconds_of}
 use Rattle.model.specs.Lists.{keep}
 use Rattle.model.specs.Calls.{Call, lay_out, create, cancel, delete, fire_after, fire_when, fire_every, reset, tick, set_clock, initiate_server, server_fire_after, server_fire_when, serve}
-use Rattle.model.specs.Kinds.{After}
 use Rattle.model.specs.State.{id_base}
 use Rattle.model.specs.Sound.{header_sound, slot_sound, chain_sound, ticks_sound, dates_sound, queue_sound, sound}
 use Rattle.model.specs.Outcome.{status_on, outcome, after}

@@ -8,7 +8,6 @@ use Rattle.calendar.specs.Calendar.{months_of, years, valid, seconds_of, date_of
 use Rattle.model.specs.Calls.{Call, lay_out, create, ident, cancel, delete, fire_after, fire_when, fire_every, reset, ticks_left, tick, set_clock, get_clock, next_due, initiate_server, server_fire_after, server_fire_when, serve, leap, call_number}
 use Rattle.model.specs.Sound.{header_sound, slot_sound, chain_sound, ticks_sound, dates_sound, queue_sound, sound}
 use Rattle.model.specs.Outcome.{status_on, outcome, after}
-use Rattle.model.specs.Kinds.{Every}
 use Rattle.model.proofs.Cases.{Case, calls, computed, date, nine, unlent}
 
 -- the first and the second id, and lists of three and of six words

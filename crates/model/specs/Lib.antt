@@ -1,5 +1,6 @@
 pub mod Lists
 pub mod Status
+pub mod StatusTexts
 pub mod Calls
 pub mod Kinds
 pub mod Parties

@@ -9,7 +9,6 @@ ghost use Rattle.model.specs.Directives.{first_tests};
 ghost use Rattle.model.specs.Outcome.{outcome_of, outcome};
 ghost use Rattle.answers.specs.Answers.{status_of, answer_of};
 
-use answers::Answer;
 use model::Status;
 use table::*;
 
@@ -17,40 +16,32 @@ use table::*;
 fn has_room(table: &[u32]) -> bool
     ensures { result ≡ all_of (take 4 (first_tests table.now)) }
 {
-    let words = table.len();
-    if words < HEADER {
-        return false;
-    }
-    let slots = table[SLOT_COUNT];
-    if slots < 1 {
-        return false;
-    }
-    if MOST_SLOTS < slots {
-        return false;
-    }
-    HEADER + SLOT * (slots as usize) <= words
+    HEADER <= table.len()
+        && (1..=MOST_SLOTS).contains(&table[SLOT_COUNT])
+        && HEADER + SLOT * (table[SLOT_COUNT] as usize) <= table.len()
 }
 
 // The ticks until the first interval timer, 0 if none waits. On a sound table these are the least ticks left over all of them.
-pub fn next_due(table: &[u32]) -> Answer
+// (0 and no `Option`: it is the number that the call answers, in document 01 and to C.)
+pub fn next_due(table: &[u32]) -> Result<u32, Status>
     ensures { outcome_of (status_of result) (answer_of result) table.now [] ≡ outcome table.now call.next_due }
 {
     if !has_room(table) {
-        return Answer::Refused(Status::NotSound);
+        return Err(Status::NotSound);
     }
     let first = table[FIRST_TICKING];
     if first == 0 {
-        return Answer::Done(0);
+        return Ok(0);
     }
     if table[SLOT_COUNT] < first {
-        return Answer::Refused(Status::NotSound);
+        return Err(Status::NotSound);
     }
     if !waits_for_ticks(get(table, first, KIND)) {
-        return Answer::Refused(Status::NotSound);
+        return Err(Status::NotSound);
     }
     let wait = get(table, first, WAIT);
     if wait == 0 {
-        return Answer::Refused(Status::NotSound);
+        return Err(Status::NotSound);
     }
-    Answer::Done(wait)
+    Ok(wait)
 }

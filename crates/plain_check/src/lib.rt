@@ -12,15 +12,19 @@ use table::*;
 use walks::*;
 use word_checks::slot_tested;
 
+// The kinds that are told apart here, as words: see crate `word_checks`.
+const WAITING_TICKS: u32 = Kind::WaitingTicks as u32;
+
+const WAITING_DATE: u32 = Kind::WaitingDate as u32;
+
+const WAITING_EVERY: u32 = Kind::WaitingEvery as u32;
+
 // A timer of this kind, one of 0 to 7, waits in the interval chain.
 fn plain_waits_for_ticks(kind: u32) -> bool
     requires { kind < 8 }
     ensures { result ≡ waits_in ByTicks kind }
 {
-    if kind == WAITING_TICKS {
-        return true;
-    }
-    kind == WAITING_EVERY
+    matches!(kind, WAITING_TICKS | WAITING_EVERY)
 }
 
 // Whether the table is sound, where its header is and the server is not initiated. One pass over the slots; each waiting one goes one step along its
@@ -41,6 +45,7 @@ pub fn is_sound(t: &[u32]) -> bool
     let mut date_before = 0;
     let mut date = t[SECONDS] + 1;
     let mut i = 1;
+    // (by `for` the pass executes 9 % more instructions)
     while i <= n {
         if !slot_tested(&*t, i) {
             return false;

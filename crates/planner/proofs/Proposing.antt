@@ -13,7 +13,7 @@ use Rattle.laws.proofs.ListLaws.{cases}
 use Rattle.plans.specs.declared.Job.{Job}
 use Rattle.plans.specs.Plans.{jobs_of}
 use Rattle.plans.specs.Parts.{job_at}
-use Rattle.plans.proofs.Limits.{Within, jobs-from}
+use Rattle.plans.proofs.Limits.{Within, jobs-from, jobs-facts, job-facts}
 use Rattle.planner.specs.Proposal.{ticks_on, back_to_back, proposal}
 
 -- the jobs before job i have their starts
@@ -116,3 +116,5 @@ module _ (list starts : List ℕ) where
 
   pub stored-all : (i : ℕ) → i ≡ length starts → take i starts ++ drop i list ≡ starts ++ drop (length starts) list
   stored-all i e = ap (λ (n : ℕ). take n starts ++ drop n list) e ∙ ap (λ (l : List ℕ). l ++ drop (length starts) list) (take-length starts)
+
+pub ruleset jobs = (jobs-facts, job-facts)

@@ -1,9 +1,9 @@
 -- Document 02, item 13, packing the break: what the planner answers and what it leaves in the list that it is lent, for all inputs. Assumes nothing: these are
 -- definitions.
-use Rattle.std.specs.Prelude.{ℕ, ◌≤◌, true, cond, not, List, [], ◌∷◌, ◌++◌, ◌≡◌, ltb, eqb, length, take, drop}
+use Rattle.std.specs.Prelude.{ℕ, ◌≤◌, true, cond, not, Result, ⊤, List, [], ◌∷◌, ◌++◌, ◌≡◌, ltb, eqb, length, take, drop}
+use Rattle.model.specs.declared.Status.{Status}
 use Rattle.model.specs.declared.Status.TheVariants.{InvalidSize, InvalidNumber, Unsatisfied}
 use Rattle.model.specs.Status.{Refusal, when, first_of}
-use Rattle.plans.specs.declared.Verdict.{Verdict}
 use Rattle.plans.specs.Plans.{jobs_of, within_limits}
 use Rattle.plans.specs.Checker.{status_of, checked}
 use Rattle.planner.specs.Proposal.{proposal}
@@ -28,7 +28,7 @@ pub record Outcome : Type 0 where
 abbrev pub exported : ℕ → List ℕ → Outcome
 exported status list = record { status = status; list = list }
 
-abbrev pub outcome_of : Verdict → List ℕ → Outcome
+abbrev pub outcome_of : Result ⊤ Status → List ℕ → Outcome
 outcome_of verdict list = exported (status_of verdict) list
 
 -- "A refusal leaves the list, and words past the starts stay."

@@ -9,9 +9,11 @@ ghost use Rattle.planner.specs.Proposal.{proposal};
 ghost use Rattle.planner.specs.Planner.{outcome_of, planned, Exact};
 
 use model::Status;
-use plans::{BENCHES, JOB, MOST_JOBS, Verdict, check, within_limits};
+use plans::{BENCHES, JOB, MOST_JOBS, check, within_limits};
 
-// The plan back to back, in one pass: `ends` has for each bench where its last job ends.
+// The plan back to back, in one pass: `ends` has for each bench where its last job ends. (An array with a place for each job that there may be, since
+// there is no heap; the bench is a cast, since an index is a `usize`, which has no `From` of 32 bits.)
+#[tactic(auto, using(crate::proofs::Proposing::jobs))]
 fn propose(jobs: &[u32]) -> [u32; MOST_JOBS]
     requires { jobs_within jobs.now ≡ true }
     ensures { take (length (jobs_of jobs.now)) result ≡ proposal jobs.now }
@@ -19,14 +21,12 @@ fn propose(jobs: &[u32]) -> [u32; MOST_JOBS]
     let n = jobs.len() / JOB;
     let mut starts = [0u32; MOST_JOBS];
     let mut ends = [0u32; BENCHES];
-    let mut i = 0;
-    while i < n {
+    for i in 0..n {
         let at = JOB * i;
         let bench = jobs[at] as usize;
         let start = ends[bench];
         starts[i] = start;
         ends[bench] = start + jobs[at + 1];
-        i += 1;
     }
     starts
 }
@@ -36,30 +36,25 @@ fn store(list: &mut [u32], starts: &[u32])
     requires { length starts.now ≤ length list.old }
     ensures { list.new ≡ starts.now ++ drop (length starts.now) list.old }
 {
-    let mut i = 0;
-    while i < starts.len() {
-        list[i] = starts[i];
-        i += 1;
-    }
+    list[..starts.len()].copy_from_slice(starts);
 }
 
 // Proposes a plan, through the checker: the starts go into the first words of the list, which stays as it is where there is no plan.
-pub fn plan(jobs: &[u32], end: u32, list: &mut [u32]) -> Verdict
+#[tactic(auto, using(plans::proofs::Limits::limits))]
+pub fn plan(jobs: &[u32], end: u32, list: &mut [u32]) -> Result<(), Status>
     ensures outcome { outcome_of result list.new ≡ planned jobs.now end list.old }
     ensures exact { Exact jobs.now end list.old (status_of result) list.new }
 {
     if !within_limits(jobs, end) {
-        return Verdict::Refused(Status::InvalidNumber);
+        return Err(Status::InvalidNumber);
     }
     let n = jobs.len() / JOB;
     if list.len() < n {
-        return Verdict::Refused(Status::InvalidSize);
+        return Err(Status::InvalidSize);
     }
     let starts = propose(jobs);
     let proposal = &starts[..n];
-    let Verdict::Accepted = check(jobs, end, proposal) else {
-        return Verdict::Refused(Status::Unsatisfied);
-    };
+    check(jobs, end, proposal)?;
     store(list, proposal);
-    Verdict::Accepted
+    Ok(())
 }

@@ -1,22 +1,12 @@
 // The checker and the planner for C: the prototypes of include/heathcinder.h. A slice is a pointer and a length there. Each call gives its status as
-// the result. The contracts are the checker's and the planner's own.
+// the result. The contracts are the checker's and the planner's own. (The parameters are those of include/heathcinder.h.)
 #![tactic(auto)]
 
 ghost use Rattle.std.specs.Prelude.{◌≡◌};
-ghost use Rattle.plans.specs.Checker.{status_of, checked};
+ghost use Rattle.plans.specs.Checker.{checked};
 ghost use Rattle.planner.specs.Planner.{exported, planned, Exact};
 
-use plans::Verdict;
-
-// The status of a verdict, as a number.
-fn status_of(verdict: Verdict) -> u32
-    ensures { result ≡ status_of verdict }
-{
-    match verdict {
-        Verdict::Accepted => status::SUCCESSFUL,
-        Verdict::Refused(refusal) => status::number_of(refusal),
-    }
-}
+use answers::status_of;
 
 #[unsafe(no_mangle)]
 pub extern "C" fn hc_plan_check(jobs: &[u32], end: u32, starts: &[u32]) -> u32

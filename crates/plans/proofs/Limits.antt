@@ -62,6 +62,10 @@ jobs-facts words e =
 pub not-jobs : (words : List ℕ) → (Jobs words → ⊥) → false ≡ jobs_within words
 not-jobs words n = cases (jobs_within words) (λ e. absurd (n (jobs-facts words e))) (λ e. sym e)
 
+-- two words a job, and one start
+pub pairs : (words starts : List ℕ) → jobs_within words ≡ true → length starts ≡ length (jobs_of words) → length words ≡ 2 * length starts
+pairs words starts within one = omega (arith, (jobs-facts words within).pairs)
+
 pub jobs-length : (words : List ℕ) (n : ℕ) → length words ≡ 2 * n → length (jobs_of words) ≡ n
 jobs-length [] n e = omega arith
 jobs-length (b ∷ []) n e = omega arith
@@ -118,3 +122,5 @@ limits-within words end e = (both (jobs_within words) (leb end 1000000) e).0
 
 pub limits-jobs : (words : List ℕ) (end : ℕ) → within_limits words end ≡ true → Jobs words
 limits-jobs words end e = jobs-facts words (limits-within words end e)
+
+pub ruleset limits = (limits-within, limits-jobs)

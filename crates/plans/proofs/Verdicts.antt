@@ -36,6 +36,13 @@ module _ (words : List ℕ) (end : ℕ) (starts : List ℕ) where
       unfolding checked
       accepted e = rw (limits, eq-eqb (length starts) (length (jobs_of words)) one_each, e)
 
+  -- within the limits and one start a job, it refuses with 13 alone
+  pub unsatisfied : within_limits words end ≡ true → length starts ≡ length (jobs_of words) → (checked words end starts ≡ 0 → ⊥) → checked words end starts ≡ 13
+  unsatisfied limits one_each n =
+      cases (accepts end (booked (jobs_of words) starts))
+      (λ a. absurd (n (omega (arith, accepted limits one_each a))))
+      (λ a. omega (arith, not-accepted limits one_each a))
+
   pub good : checked words end starts ≡ 0 → Good words end starts
   good e =
       cases (within_limits words end)
@@ -47,3 +54,5 @@ module _ (words : List ℕ) (end : ℕ) (starts : List ℕ) where
       (λ a. absurd (omega (arith, not-accepted l each a))))
       (λ f. absurd (omega (arith, not-one-each l (eqb-false (length starts) (length (jobs_of words)) f)))))
       (λ l. absurd (omega (arith, outside l)))
+
+pub ruleset verdicts = (outside, not-one-each, not-accepted, accepted)

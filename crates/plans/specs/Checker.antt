@@ -1,15 +1,14 @@
 -- Document 02, item 13, packing the break: what the checker answers, for all inputs. Assumes nothing: these are definitions.
-use Rattle.std.specs.Prelude.{ℕ, not, List, [], ◌∷◌, eqb, length}
+use Rattle.std.specs.Prelude.{ℕ, ⊤, not, List, [], ◌∷◌, eqb, length, Result, Ok, Err}
+use Rattle.model.specs.declared.Status.{Status}
 use Rattle.model.specs.declared.Status.TheVariants.{InvalidNumber, Unsatisfied}
 use Rattle.model.specs.Status.{Refusal, number_of, when, first_of}
-use Rattle.plans.specs.declared.Verdict.{Verdict}
-use Rattle.plans.specs.declared.Verdict.TheVariants.{Accepted, Refused}
 use Rattle.plans.specs.Plans.{jobs_of, within_limits, booked, accepts}
 
--- `Accepted` is status 0; `Refused s` is the status of that name
-abbrev pub status_of : Verdict → ℕ
-status_of Accepted = 0
-status_of (Refused s) = number_of s
+-- `Ok` is status 0; `Err s` is the status of that name
+abbrev pub status_of : Result ⊤ Status → ℕ
+status_of (Ok done) = 0
+status_of (Err s) = number_of s
 
 -- "Numbers outside these limits or not one start a job are 10"; "otherwise it answers 13", which "comes last"
 abbrev pub check_rules : List ℕ → ℕ → List ℕ → List Refusal

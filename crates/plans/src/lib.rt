@@ -11,22 +11,15 @@ ghost use Rattle.plans.specs.Parts.{job_at, booked_at, booked_from};
 
 use model::Status;
 
-// What the checker and the planner answer.
-#[derive(Clone, Copy)]
-pub enum Verdict {
-    Accepted,
-    Refused(Status),
-}
-
 // A job: its bench, and its length in ticks.
-#[derive(Clone, Copy)]
+#[derive(Clone, Copy, Debug, PartialEq, Eq)]
 pub struct Job {
     pub bench: u32,
     pub ticks: u32,
 }
 
 // A bench is taken from tick `from` until tick `to`, at which it is free again.
-#[derive(Clone, Copy)]
+#[derive(Clone, Copy, Debug, PartialEq, Eq)]
 pub struct Booking {
     pub bench: u32,
     pub from: u64,
@@ -48,12 +41,6 @@ pub const BENCHES: usize = 5;
 // The longest job, and the longest break.
 const LONGEST: u32 = 1000000;
 
-fn wide(x: u32) -> u64
-    ensures { (result ≡ x) × (result < 4294967296) }
-{
-    x as u64
-}
-
 // Job i, counted from 0.
 fn job_at(jobs: &[u32], i: usize) -> Job
     requires { 2 * i + 1 < length jobs.now }
@@ -67,25 +54,15 @@ fn job_at(jobs: &[u32], i: usize) -> Job
 }
 
 // The numbers of a job are within their limits.
+#[tactic(auto, unfolding(crate::specs::Plans::job_within))]
 fn job_within(job: Job) -> bool
     ensures { result ≡ job_within job }
 {
-    if job.bench < 1 {
-        return false;
-    }
-    if LAST_BENCH < job.bench {
-        return false;
-    }
-    if job.ticks < 1 {
-        return false;
-    }
-    if LONGEST < job.ticks {
-        return false;
-    }
-    true
+    (1..=LAST_BENCH).contains(&job.bench) && (1..=LONGEST).contains(&job.ticks)
 }
 
-// So are those of every job, each of two words, and there are not too many.
+// So are those of every job, each of two words, and there are not too many. (Two guards and a `for`: their answers would have to take a join by `||`
+// apart, and a chain's closure to show at each turn that a job has both its words.)
 fn jobs_within(jobs: &[u32]) -> bool
     ensures { result ≡ jobs_within jobs.now }
 {
@@ -95,13 +72,10 @@ fn jobs_within(jobs: &[u32]) -> bool
     if MOST_WORDS < jobs.len() {
         return false;
     }
-    let n = jobs.len() / JOB;
-    let mut i = 0;
-    while i < n {
+    for i in 0..jobs.len() / JOB {
         if !job_within(job_at(jobs, i)) {
             return false;
         }
-        i += 1;
     }
     true
 }
@@ -110,98 +84,98 @@ fn jobs_within(jobs: &[u32]) -> bool
 pub fn within_limits(jobs: &[u32], end: u32) -> bool
     ensures { result ≡ within_limits jobs.now end }
 {
-    if LONGEST < end {
-        return false;
-    }
-    jobs_within(jobs)
-}
-
-// Job i at its start.
-fn booked_at(jobs: &[u32], starts: &[u32], i: usize) -> Booking
-    requires { (2 * i + 1 < length jobs.now) × (i < length starts.now) }
-    ensures { result ≡ booked_at jobs.now starts.now i }
-{
-    let job = job_at(jobs, i);
-    let from = wide(starts[i]);
-    let ticks = wide(job.ticks);
-    Booking {
-        bench: job.bench,
-        from: from,
-        to: from + ticks,
-    }
+    end <= LONGEST && jobs_within(jobs)
 }
 
 // The two are of one bench, and each starts before the other ends.
 fn overlaps(p: Booking, q: Booking) -> bool
     ensures { result ≡ overlap p q }
 {
-    if p.bench != q.bench {
-        return false;
-    }
-    if q.to <= p.from {
-        return false;
-    }
-    q.from < p.to
+    p.bench == q.bench && p.from < q.to && q.from < p.to
 }
 
-// None of the jobs from job k on overlaps p. None of p's bench starts before `earliest`, so that no search is needed where p ends by then.
-fn clear_of(jobs: &[u32], starts: &[u32], k: usize, p: Booking, earliest: u64) -> bool
-    requires { (length jobs.now ≡ 2 * length starts.now) × All (λ q. p.bench ≡ q.bench → earliest ≤ q.from) (booked_from jobs.now starts.now k) }
-    ensures { result ≡ every (clear_of p) (booked_from jobs.now starts.now k) }
-{
-    if p.to <= earliest {
-        return true;
-    }
-    let mut j = k;
-    while j < starts.len() {
-        if overlaps(p, booked_at(jobs, starts, j)) {
-            return false;
-        }
-        j += 1;
-    }
-    true
+// A plan for jobs that are within their limits, good or not: the jobs' words, and one start a job.
+#[derive(Clone, Copy, Debug, PartialEq, Eq)]
+struct Plan<'p> {
+    jobs: &'p [u32],
+    starts: &'p [u32],
+    ghost within: { jobs_within jobs.now ≡ true },
+    ghost one_each: { length starts.now ≡ length (jobs_of jobs.now) },
 }
 
-// Every job ends by the end of the break and no two of one bench overlap. The jobs are taken from the last to the first; `earliest` has the
-// earliest start so far of each bench, so that jobs which stand in the order of their starts need no search.
-fn all_fit(jobs: &[u32], end: u32, starts: &[u32]) -> bool
-    requires { (jobs_within jobs.now ≡ true) × (length starts.now ≡ length (jobs_of jobs.now)) }
-    ensures { result ≡ accepts end (booked (jobs_of jobs.now) starts.now) }
-{
-    let limit = wide(end);
-    let mut earliest = [limit; BENCHES];
-    let mut left = starts.len();
-    while 0 < left {
-        let i = left - 1;
-        let p = booked_at(jobs, starts, i);
-        if limit < p.to {
-            return false;
+impl<'p> Plan<'p> {
+    // Job i at its start.
+    #[tactic(auto, using(crate::proofs::Limits::pairs))]
+    fn booked_at(self, i: usize) -> Booking
+        requires { i < length self.starts.now }
+        ensures { result ≡ booked_at self.entry.jobs.now self.entry.starts.now i }
+    {
+        let job = job_at(self.jobs, i);
+        let from = u64::from(self.starts[i]);
+        Booking {
+            bench: job.bench,
+            from,
+            to: from + u64::from(job.ticks),
         }
-        let bench = p.bench as usize;
-        let next = earliest[bench];
-        if !clear_of(jobs, starts, left, p, next) {
-            return false;
-        }
-        if p.from < next {
-            earliest[bench] = p.from;
-        }
-        left = i;
     }
-    true
+
+    // None of the jobs from job k on overlaps p. None of p's bench starts before `earliest`, so that no search is needed where p ends by then.
+    fn clear_of(self, k: usize, p: Booking, earliest: u64) -> bool
+        requires { All (λ q. p.bench ≡ q.bench → earliest ≤ q.from) (booked_from self.jobs.now self.starts.now k) }
+        ensures { result ≡ every (clear_of p) (booked_from self.entry.jobs.now self.entry.starts.now k) }
+    {
+        if p.to <= earliest {
+            return true;
+        }
+        for j in k..self.starts.len() {
+            if overlaps(p, self.booked_at(j)) {
+                return false;
+            }
+        }
+        true
+    }
+
+    // Every job ends by the end of the break and no two of one bench overlap. The jobs are taken from the last to the first; `earliest` has the
+    // earliest start so far of each bench, so that jobs which stand in the order of their starts need no search.
+    fn all_fit(self, end: u32) -> bool
+        ensures { result ≡ accepts end (booked (jobs_of self.entry.jobs.now) self.entry.starts.now) }
+    {
+        let limit = u64::from(end);
+        let mut earliest = [limit; BENCHES];
+        for i in (0..self.starts.len()).rev() {
+            let p = self.booked_at(i);
+            if limit < p.to {
+                return false;
+            }
+            // (an index is a `usize`, which has no `From` of 32 bits)
+            let bench = p.bench as usize;
+            let next = earliest[bench];
+            if !self.clear_of(i + 1, p, next) {
+                return false;
+            }
+            if p.from < next {
+                earliest[bench] = p.from;
+            }
+        }
+        true
+    }
 }
 
-// Whether a plan is good: there is one start a job, every job ends by the end of the break, and no two of one bench overlap.
-pub fn check(jobs: &[u32], end: u32, starts: &[u32]) -> Verdict
+// Whether a plan is good: there is one start a job, every job ends by the end of the break, and no two of one bench overlap. (Jobs and starts are any
+// words here, as hc_plan_check has them; a `Plan` is made where they are known to fit each other.)
+#[tactic(auto, using(crate::proofs::Verdicts::verdicts, crate::proofs::Limits::limits))]
+pub fn check(jobs: &[u32], end: u32, starts: &[u32]) -> Result<(), Status>
     ensures { status_of result ≡ checked jobs.now end starts.now }
 {
     if !within_limits(jobs, end) {
-        return Verdict::Refused(Status::InvalidNumber);
+        return Err(Status::InvalidNumber);
     }
     if starts.len() != jobs.len() / JOB {
-        return Verdict::Refused(Status::InvalidNumber);
+        return Err(Status::InvalidNumber);
     }
-    if !all_fit(jobs, end, starts) {
-        return Verdict::Refused(Status::Unsatisfied);
+    let plan = Plan { jobs, starts };
+    if !plan.all_fit(end) {
+        return Err(Status::Unsatisfied);
     }
-    Verdict::Accepted
+    Ok(())
 }

@@ -10,7 +10,8 @@ use borrow.Author.Tests.{lt-ltb, le-ltb}
 use Rattle.model.specs.declared.Status.TheVariants.{InvalidNumber, InvalidSize, ListTooShort}
 use Rattle.model.specs.Status.{when, first_of}
 use Rattle.recording.specs.declared.Recording.{Recording}
-use Rattle.recording.specs.declared.Contents.TheVariants.{Taken, Refused}
+use Rattle.recording.specs.declared.WrongWord.{WrongWord}
+use Rattle.std.specs.Prelude.{Ok, Err}
 use Rattle.recording.specs.Format.{words_of, Read, taken_with, reading, given}
 use Rattle.playback.specs.Replay.{Replay, replay_of, replay_rules, played, replaying}
 
@@ -24,21 +25,21 @@ module _ (bytes table list : List ℕ) where
   unfolding replaying
   is r e = ap by-reading e
 
-  pub not_taken : (p : ℕ) → given (Refused p) ≡ reading bytes → replay_of 10 (some p) table list ≡ replaying bytes table list
-  not_taken p e = is (given (Refused p)) e
+  pub not_taken : (w : WrongWord) → given (Err w) ≡ reading bytes → replay_of 10 (some w.position) table list ≡ replaying bytes table list
+  not_taken w e = is (given (Err w)) e
 
-  module _ (r : Recording) (e : given (Taken r) ≡ reading bytes) where
+  module _ (r : Recording) (e : given (Ok r) ≡ reading bytes) where
     -- by the two tests
     by_tests : (b c : Bool) → ltb (length table) (10 + 8 * r.slots) ≡ b → ltb (length list) (3 * r.slots) ≡ c
-        → cond b (replay_of 8 (some 0) table list) (cond c (replay_of 101 (some 0) table list) (played (given (Taken r)) (words_of bytes) table list))
+        → cond b (replay_of 8 (some 0) table list) (cond c (replay_of 101 (some 0) table list) (played (given (Ok r)) (words_of bytes) table list))
         ≡ replaying bytes table list
-    by_tests b c p q = by b c ∙ sym (λ j. from (first_of (when InvalidNumber false ∷ when InvalidSize (p j) ∷ when ListTooShort (q j) ∷ []))) ∙ is (given (Taken r)) e
+    by_tests b c p q = by b c ∙ sym (λ j. from (first_of (when InvalidNumber false ∷ when InvalidSize (p j) ∷ when ListTooShort (q j) ∷ []))) ∙ is (given (Ok r)) e
       where
         from : ℕ → Replay
-        from status = cond (eqb status 0) (played (given (Taken r)) (words_of bytes) table list) (replay_of status (some 0) table list)
+        from status = cond (eqb status 0) (played (given (Ok r)) (words_of bytes) table list) (replay_of status (some 0) table list)
 
         by : (b c : Bool)
-            → cond b (replay_of 8 (some 0) table list) (cond c (replay_of 101 (some 0) table list) (played (given (Taken r)) (words_of bytes) table list))
+            → cond b (replay_of 8 (some 0) table list) (cond c (replay_of 101 (some 0) table list) (played (given (Ok r)) (words_of bytes) table list))
             ≡ from (first_of (when InvalidNumber false ∷ when InvalidSize b ∷ when ListTooShort c ∷ []))
         by true c = refl
         by false true = refl

@@ -2,19 +2,19 @@
 // specs/Replay.antt says what comes of it; any bytes, table and list are answered.
 #![tactic(auto)]
 
-ghost use Rattle.std.specs.Prelude.{◌≡◌, ◌+◌, ◌*◌, ◌<◌, ◌≤◌, length, get_or, take, drop};
+ghost use Rattle.std.specs.Prelude.{◌≡◌, ◌+◌, ◌*◌, ◌<◌, ◌≤◌, length, get_or, take, drop, Ok};
 ghost use Rattle.recording.specs.Format.{words_of, reading, given, calls_in, statuses_in};
-ghost use Rattle.recording.specs.declared.Contents.TheVariants.{Taken};
 ghost use Rattle.playback.specs.Replay.{replay_of, played_from, replaying, status_of, place_of};
 
 use going_on::ENTRY;
 use recorded_call::play;
-use recording::{CALL_WORDS, Contents, FRONT, Recording, word_at};
+use recording::{CALL_WORDS, FRONT, Recording, WORD, word_at};
+use std::array;
 use table::{HEADER, ONE_PARTY, SLOT};
 
 // What comes of a replay: every status is the expected one; or the place, from 0, of the first call whose status differs; or no recording, with the
 // position of the first wrong word; or a table, or a list, too short for the recording, whose calls are not played.
-#[derive(Clone, Copy)]
+#[derive(Clone, Copy, Debug, PartialEq, Eq)]
 pub enum Replayed {
     Agree,
     Differs(u32),
@@ -23,24 +23,12 @@ pub enum Replayed {
     ShortList,
 }
 
-// The eleven words of the call at a position. (20,000 is any bound above the 12,005 words of a recording: sums fit.)
-fn call_at(bytes: &[u8], at: usize) -> [u32; CALL_WORDS]
-    requires { (at < 20000) × (at + 11 ≤ length (words_of bytes.now)) }
-    ensures { result ≡ take 11 (drop at (words_of bytes.now)) }
+// The eleven words of the call at the front.
+fn first_call(bytes: &[u8]) -> [u32; CALL_WORDS]
+    requires { 11 ≤ length (words_of bytes.now) }
+    ensures { result ≡ take 11 (words_of bytes.now) }
 {
-    [
-        word_at(bytes, at),
-        word_at(bytes, at + 1),
-        word_at(bytes, at + 2),
-        word_at(bytes, at + 3),
-        word_at(bytes, at + 4),
-        word_at(bytes, at + 5),
-        word_at(bytes, at + 6),
-        word_at(bytes, at + 7),
-        word_at(bytes, at + 8),
-        word_at(bytes, at + 9),
-        word_at(bytes, at + 10),
-    ]
+    array::from_fn(|i| word_at(bytes, i))
 }
 
 // The calls of a recording run, one after the other, until the status of one is not the expected one.
@@ -50,22 +38,20 @@ fn play_all(bytes: &[u8], calls: u32, table: &mut [u32], list: &mut [u32]) -> Re
         ≡ played_from 0 table.old list.old (calls_in (words_of bytes.now)) (statuses_in (words_of bytes.now)) }
 {
     let statuses = FRONT + 1 + CALL_WORDS * (calls as usize);
-    let mut k = 0;
-    while k < calls {
-        let call = call_at(bytes, FRONT + CALL_WORDS * (k as usize));
+    for k in 0..calls {
+        let call = first_call(&bytes[WORD * (FRONT + CALL_WORDS * (k as usize))..]);
         let status = play(call, table, list);
         let expected = word_at(bytes, statuses + k as usize);
         if status != expected {
             return Replayed::Differs(k);
         }
-        k += 1;
     }
     Replayed::Agree
 }
 
 // A recording that is taken runs on the table, which is laid out first, if table and list are long enough.
 fn run(bytes: &[u8], recorded: Recording, table: &mut [u32], list: &mut [u32]) -> Replayed
-    requires { given (Taken recorded) ≡ reading bytes.now }
+    requires { given (Ok recorded) ≡ reading bytes.now }
     ensures { replay_of (status_of result) (place_of result) table.new list.new ≡ replaying bytes.now table.old list.old }
 {
     let slots = recorded.slots as usize;
@@ -76,7 +62,7 @@ fn run(bytes: &[u8], recorded: Recording, table: &mut [u32], list: &mut [u32]) -
     if list.len() < lent {
         return Replayed::ShortList;
     }
-    timer::lay_out(table, recorded.slots, recorded.rate, ONE_PARTY);
+    let _ = timer::lay_out(table, recorded.slots, recorded.rate, ONE_PARTY);
     play_all(bytes, recorded.calls, table, &mut list[..lent])
 }
 
@@ -85,7 +71,7 @@ pub fn replay(bytes: &[u8], table: &mut [u32], list: &mut [u32]) -> Replayed
     ensures { replay_of (status_of result) (place_of result) table.new list.new ≡ replaying bytes.now table.old list.old }
 {
     match recording::read(bytes) {
-        Contents::Taken(recorded) => run(bytes, recorded, table, list),
-        Contents::Refused(position) => Replayed::Refused(position),
+        Ok(recorded) => run(bytes, recorded, table, list),
+        Err(wrong) => Replayed::Refused(wrong.position),
     }
 }

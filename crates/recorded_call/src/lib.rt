@@ -6,10 +6,10 @@ ghost use Rattle.std.specs.Prelude.{◌≡◌, true, get_or};
 ghost use Rattle.recording.specs.Format.{within};
 ghost use Rattle.recorded_timer.specs.RecordedCalls.{step_of, step};
 
-use answers::{reading_status, status_of};
+use answers::status_of;
 use clock::*;
 use recorded_timer::{play_timer, wall_time_at};
-use recording::*;
+use recording::{CALL_WORDS, CallNumber};
 use server::{initiate_server, serve};
 use table::PARTY_1;
 
@@ -18,21 +18,14 @@ pub fn play(words: [u32; CALL_WORDS], table: &mut [u32], list: &mut [u32]) -> u3
     requires { within 2 19 (get_or words 0 0) ≡ true }
     ensures { step_of result table.new list.new ≡ step table.old list.old words }
 {
-    let number = words[0];
-    match number {
-        TICK => status_of(tick(table, list)),
-        SET_CLOCK => {
-            let set = set_clock(table, wall_time_at(words, 1), list).answer;
-            status_of(set)
-        }
-        GET_CLOCK => reading_status(get_clock(table)),
-        NEXT_DUE => status_of(next_due::next_due(table)),
-        INITIATE_SERVER => status_of(initiate_server(table)),
-        SERVE => status_of(serve(table, PARTY_1, list)),
-        LEAP => {
-            let leapt = leap(table, words[1], list).answer;
-            status_of(leapt)
-        }
+    match CallNumber::of_word(words[0]) {
+        CallNumber::Tick => status_of(tick(table, list)),
+        CallNumber::SetClock => status_of(set_clock(table, wall_time_at(words, 1), list)),
+        CallNumber::GetClock => status_of(get_clock(table)),
+        CallNumber::NextDue => status_of(next_due::next_due(table)),
+        CallNumber::InitiateServer => status_of(initiate_server(table)),
+        CallNumber::Serve => status_of(serve(table, PARTY_1, list)),
+        CallNumber::Leap => status_of(leap(table, words[1], list)),
         _ => status_of(play_timer(words, table)),
     }
 }

@@ -1,14 +1,19 @@
 -- One recorded call: which call its words are, by their number; and what a call of the library leaves, as a step of the replay.
 -- Assumes nothing.
 use mathlib.Core.Path.{◌≡◌, sym, ap, ◌∙◌}
-use Prim.Native.Nat.{ℕ, suc, ◌-◌, ◌≤◌}
+use Prim.Native.Nat.{ℕ, ◌-◌, ◌≤◌}
 use native.Mathlib.Omega.{arith}
-use mathlib.Core.Logic.{◌⊎◌, inl, inr}
-use mathlib.Core.List.{List, [], ◌∷◌, ◌++◌, append-nil}
+use mathlib.Core.Logic.{inl, inr}
+use mathlib.Core.List.{List, [], ◌++◌, append-nil}
 use lib.ListN.{length, get_or, drop, drop_of_length-le}
 use Rattle.model.specs.Calls.{Call, get_clock}
 use Rattle.model.specs.Outcome.{Outcome, outcome_of, outcome}
-use Rattle.recorded_timer.specs.Parts.{OneOf, OnTimer}
+use mathlib.Core.Bool.{true}
+use Rattle.recording.proofs.Right.{true-within}
+use Rattle.recording.specs.CallNumbers.{word_of}
+use Rattle.recording.specs.Format.{within}
+use Rattle.recording.specs.declared.call_number.CallNumber.{CallNumber}
+use Rattle.recorded_timer.specs.Parts.{OnTimer}
 use Rattle.recorded_timer.specs.RecordedCalls.{numbered, call_of, Step, step_of, step}
 
 -- the call of that number
@@ -43,28 +48,15 @@ module _ (t list ws : List ℕ) where
 pub with-status : {s s' : ℕ} {t l : List ℕ} {x : Step} → s ≡ s' → step_of s' t l ≡ x → step_of s t l ≡ x
 with-status {t} {l} e is = (λ j. step_of (e j) t l) ∙ is
 
--- ---- the number that no arm names
+-- ---- the number of an arm
 
--- the second of two, where it is not the first
-pub otherwise : {A B : Type 0} → (A → ⊥) → A ⊎ B → B
-otherwise no-a (inl a) = absurd (no-a a)
-otherwise no-a (inr b) = b
+-- the arm of this call is taken for its number
+pub is-number : {call other : CallNumber} {n : ℕ} → word_of call ≡ n → call ≡ other → n ≡ word_of other
+is-number e is = sym e ∙ ap word_of is
 
--- the next of a number that it is not
-pub above : {m n : ℕ} → m ≤ n → (n ≡ m → ⊥) → suc m ≤ n
-above h e = omega arith
+pub timer-within : (n : ℕ) → OnTimer n → within 2 19 n ≡ true
+timer-within n (inl on) = true-within 2 19 n on.0 (omega arith)
+timer-within n (inr (inl on)) = true-within 2 19 n (omega arith) (omega arith)
+timer-within n (inr (inr on)) = true-within 2 19 n (omega arith) (omega arith)
 
-only-six : {n : ℕ} → 6 ≤ n → n ≤ 9 → (n ≡ 7 → ⊥) → (n ≡ 8 → ⊥) → (n ≡ 9 → ⊥) → n ≡ 6
-only-six low high n7 n8 n9 = omega arith
-
-only-sixteen : {n : ℕ} → 16 ≤ n → n ≤ 17 → (n ≡ 17 → ⊥) → n ≡ 16
-only-sixteen low high n17 = omega arith
-
--- a call on one timer that no arm names is a start for ticks
-pub start_left : (n : ℕ) → OnTimer n
-    → ((((((Unit {0} × (n ≡ 2 → ⊥)) × (n ≡ 3 → ⊥)) × (n ≡ 4 → ⊥)) × (n ≡ 5 → ⊥)) × (n ≡ 8 → ⊥)) × (n ≡ 9 → ⊥)) × (OneOf n 7 (17 ∷ []) → ⊥)
-    → OneOf n 6 (13 ∷ 16 ∷ [])
-start_left n (inl on) (((((((_, n2), n3), n4), n5), n8), n9), n7) =
-    inl (only-six (above (above (above (above on.0 n2) n3) n4) n5) on.1 (λ e. n7 (inl e)) n8 n9)
-start_left n (inr (inl on)) none = inr (inl on)
-start_left n (inr (inr on)) none = inr (inr (only-sixteen on.0 on.1 (λ e. none.1 (inr e))))
+pub ruleset numbers = (timer-within)

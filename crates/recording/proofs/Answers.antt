@@ -9,8 +9,9 @@ use lib.ListN.{length, get_or, drop}
 use lib.Dec.{ltb, eqb}
 use borrow.Author.Tests.{eq-eqb, ne_eqb}
 use Rattle.laws.proofs.ListLaws.{and_both, clash}
-use Rattle.recording.specs.Format.{within, calls_rules, layout, right, Read, taken_with, refused_at, reading_of}
-use Rattle.recording.proofs.Right.{right-at, right-rules, within-true}
+use Rattle.recording.specs.Format.{words_of, within, calls_rules, layout, right, Read, taken_with, refused_at, reading_of}
+use Rattle.recording.proofs.ByteWords.{words-length}
+use Rattle.recording.proofs.Right.{right-at, right-rules, right-words, within-true}
 use Rattle.recording.proofs.Reach.{numbers, layout-length, calls-length, at-numbers, at-calls, at_count, at-statuses, at-end, tested-there}
 
 abbrev taken_of : List ℕ → Read
@@ -63,6 +64,16 @@ every_call calls d end e h = let l = right-rules (calls_rules calls d) d in let 
 
 pub few-calls : (ws : List ℕ) → right numbers ws ≡ 4 → get_or ws 3 0 ≤ 1000
 few-calls ws n = (within-true 0 1000 (get_or ws 3 0) (right-at numbers ws n 3 (omega arith))).1
+
+-- the four numbers are right, and so many calls are said to be there
+pub few : (ws : List ℕ) (start calls : ℕ) → start ≡ right numbers ws → 4 ≤ start → calls ≡ get_or ws 3 0 → calls ≤ 1000
+few ws start calls e h is = omega (arith, few-calls ws (all-numbers ws start e h), is)
+
+-- the four numbers are there
+pub front : (bytes : List ℕ) (start : ℕ) → start ≡ right numbers (words_of bytes) → 4 ≤ start → 16 ≤ length bytes
+front bytes start e h = omega (arith, words-length bytes, right-words numbers (words_of bytes))
+
+pub ruleset few_calls = (few, front)
 
 module _ (size : ℕ) (ws : List ℕ) (calls : ℕ) (is : calls ≡ get_or ws 3 0) where
   abbrev found : ℕ → ℕ

@@ -1,19 +1,18 @@
 -- How far the words of a call, of so many calls and of a whole recording are right. Assumes nothing.
 use mathlib.Core.Path.{◌≡◌, refl, sym, ap, ◌∙◌}
 use Prim.Native.Nat.{ℕ, zero, suc, ◌+◌, ◌-◌, ◌*◌, ◌≤◌, ◌<◌}
-use native.Mathlib.Nat.{add-zero}
 use native.Mathlib.Numerals.{add-one}
 use native.Mathlib.Omega.{arith}
 use mathlib.Core.Bool.{Bool, true, false, ◌&&◌}
 use mathlib.Core.List.{List, [], ◌∷◌, ◌++◌}
 use lib.ListN.{length, get_or, drop, replicate, length-append, length-replicate, length-drop, get_or-append}
-use lib.Seq.{get_or-drop, drop-drop, drop-append-le}
+use lib.Seq.{drop-drop, drop-append-le}
 use lib.Dec.{leb, ltb}
 use borrow.Author.Tests.{leb-true, ltb-true, le-leb, lt-leb}
 use Rattle.model.specs.Lists.{every}
 use Rattle.laws.proofs.ListLaws.{both}
 use Rattle.recording.specs.Format.{Rule, within, exactly, anything, argument_counts, arguments, call_rules, calls_rules, layout, right}
-use Rattle.recording.proofs.Right.{right-on, right-off, passes, fails, any-all, any-short, test_low, test-most}
+use Rattle.recording.proofs.Right.{right-rules, right-on, right-off, passes, fails, any-all, any-short, test_low, test-most}
 
 -- ---- the test of a word that is there
 
@@ -57,6 +56,8 @@ few (x ∷ xs) (suc k) e = few xs k (both (leb x 10) (every (λ y. leb y 10) xs)
 pub arguments-few : (number : ℕ) → arguments number ≤ 10
 unfolding arguments
 arguments-few number = few argument_counts (number - 2) refl
+
+pub ruleset few_arguments = (arguments-few)
 
 pub call_length : (number : ℕ) → length (call_rules number) ≡ 11
 unfolding call_rules
@@ -113,17 +114,17 @@ module _ (ws : List ℕ) (at : ℕ) where
 -- ---- calls
 
 module _ (m : ℕ) (d : List ℕ) where
-  calls-off : right (call_rules (get_or d 0 0)) d < 11 → right (calls_rules (suc m) d) d ≡ right (call_rules (get_or d 0 0)) d
+  pub calls-off : right (call_rules (get_or d 0 0)) d < 11 → right (calls_rules (suc m) d) d ≡ right (call_rules (get_or d 0 0)) d
   unfolding calls_rules
   calls-off h = let l = call_length (get_or d 0 0) in right-off (call_rules (get_or d 0 0)) (calls_rules m (drop 11 d)) d (omega arith)
 
-  calls-on : right (call_rules (get_or d 0 0)) d ≡ 11 → right (calls_rules (suc m) d) d ≡ 11 + right (calls_rules m (drop 11 d)) (drop 11 d)
+  pub calls-on : right (call_rules (get_or d 0 0)) d ≡ 11 → right (calls_rules (suc m) d) d ≡ 11 + right (calls_rules m (drop 11 d)) (drop 11 d)
   unfolding calls_rules
   calls-on h =
       right-on (call_rules (get_or d 0 0)) (calls_rules m (drop 11 d)) d (h ∙ sym (call_length (get_or d 0 0)))
       ∙ ap (λ (n : ℕ). n + right (calls_rules m (drop 11 d)) (drop n d)) (call_length (get_or d 0 0))
 
-calls-none : (d : List ℕ) → right (calls_rules 0 d) d ≡ 0
+pub calls-none : (d : List ℕ) → right (calls_rules 0 d) d ≡ 0
 unfolding calls_rules right
 calls-none d = refl
 
@@ -136,6 +137,9 @@ calls-length (suc m) d =
     let g = calls-length m (drop 11 d) in
     omega arith
 
+pub calls-few : {r : ℕ} (m : ℕ) (d : List ℕ) → r ≡ right (calls_rules m d) d → r ≤ 11 * m
+calls-few m d e = omega (arith, right-rules (calls_rules m d) d, calls-length m d)
+
 -- words behind those of the calls
 pub calls-front : (m : ℕ) (xs ys : List ℕ) → 11 * m ≤ length xs → calls_rules m (xs ++ ys) ≡ calls_rules m xs
 unfolding calls_rules
@@ -146,45 +150,32 @@ calls-front (suc m) xs ys h =
     let tail = ap (calls_rules m) (drop-append-le 11 xs ys (omega arith)) ∙ calls-front m (drop 11 xs) ys (omega arith) in
     λ j. call_rules (head j) ++ tail j
 
--- the words of the calls from call k on that are right, the first call being at a base
-abbrev pub rest : ℕ → List ℕ → ℕ → ℕ → ℕ
-rest base ws calls k = right (calls_rules (calls - k) (drop (base + 11 * k) ws)) (drop (base + 11 * k) ws)
+-- the words of the calls from call k on that are right
+abbrev pub rest : List ℕ → ℕ → ℕ → ℕ
+rest ws calls k = right (calls_rules (calls - k) (drop (11 * k) ws)) (drop (11 * k) ws)
 
-pub rest-start : (base : ℕ) (ws : List ℕ) (calls : ℕ) → right (calls_rules calls (drop base ws)) (drop base ws) ≡ 0 + rest base ws calls 0
-rest-start base ws calls =
-    let y : base ≡ base + 11 * 0 = omega arith in
-    let z : calls ≡ calls - 0 = omega arith in
-    let e : right (calls_rules calls (drop base ws)) (drop base ws) ≡ rest base ws calls 0 =
-    (λ j. right (calls_rules (z j) (drop (y j) ws)) (drop (y j) ws)) in
-    omega arith
-
-pub rest-none : (base : ℕ) (ws : List ℕ) (calls k : ℕ) → calls ≤ k → rest base ws calls k ≡ 0
-rest-none base ws calls k h =
+pub rest-none : (ws : List ℕ) (calls k : ℕ) → calls ≤ k → rest ws calls k ≡ 0
+rest-none ws calls k h =
     let z : calls - k ≡ 0 = omega arith in
-    ap (λ (m : ℕ). right (calls_rules m (drop (base + 11 * k) ws)) (drop (base + 11 * k) ws)) z ∙ calls-none (drop (base + 11 * k) ws)
+    ap (λ (m : ℕ). right (calls_rules m (drop (11 * k) ws)) (drop (11 * k) ws)) z ∙ calls-none (drop (11 * k) ws)
 
-module _ (base : ℕ) (ws : List ℕ) (calls k : ℕ) (h : k < calls) where
-  abbrev at : ℕ
-  at = base + 11 * k
-
-  first : get_or (drop at ws) 0 0 ≡ get_or ws at 0
-  first = get_or-drop at ws 0 0 ∙ ap (λ (n : ℕ). get_or ws n 0) (add-zero at)
+module _ (ws : List ℕ) (calls k : ℕ) (h : k < calls) where
+  -- the words of call k and those behind
+  abbrev d : List ℕ
+  d = drop (11 * k) ws
 
   left : calls - k ≡ suc (calls - (k + 1))
   left = omega arith
 
-  pub rest-off : right (call_rules (get_or ws at 0)) (drop at ws) < 11 → rest base ws calls k ≡ right (call_rules (get_or ws at 0)) (drop at ws)
-  rest-off e =
-      let f = ap (λ (n : ℕ). right (call_rules n) (drop at ws)) first in
-      ap (λ (m : ℕ). right (calls_rules m (drop at ws)) (drop at ws)) left ∙ calls-off (calls - (k + 1)) (drop at ws) (omega arith) ∙ f
+  pub rest-off : right (call_rules (get_or d 0 0)) d < 11 → rest ws calls k ≡ right (call_rules (get_or d 0 0)) d
+  rest-off e = ap (λ (m : ℕ). right (calls_rules m d) d) left ∙ calls-off (calls - (k + 1)) d e
 
-  pub rest-on : right (call_rules (get_or ws at 0)) (drop at ws) ≡ 11 → rest base ws calls k ≡ 11 + rest base ws calls (k + 1)
+  pub rest-on : right (call_rules (get_or d 0 0)) d ≡ 11 → rest ws calls k ≡ 11 + rest ws calls (k + 1)
   rest-on e =
-      let f = ap (λ (n : ℕ). right (call_rules n) (drop at ws)) first in
-      let n : base + 11 * k + 11 ≡ base + 11 * (k + 1) = omega arith in
-      let d = drop-drop 11 at ws ∙ ap (λ (m : ℕ). drop m ws) n in
-      ap (λ (m : ℕ). right (calls_rules m (drop at ws)) (drop at ws)) left ∙ calls-on (calls - (k + 1)) (drop at ws) (f ∙ e)
-      ∙ ap (λ (l : List ℕ). 11 + right (calls_rules (calls - (k + 1)) l) l) d
+      let n : 11 * k + 11 ≡ 11 * (k + 1) = omega arith in
+      let later = drop-drop 11 (11 * k) ws ∙ ap (λ (m : ℕ). drop m ws) n in
+      ap (λ (m : ℕ). right (calls_rules m d) d) left ∙ calls-on (calls - (k + 1)) d e
+      ∙ ap (λ (l : List ℕ). 11 + right (calls_rules (calls - (k + 1)) l) l) later
 
 -- ---- a recording
 

@@ -8,7 +8,7 @@ use lib.ListN.{length, get_or, drop, replicate, drop_of_length-le, length-append
 use lib.Seq.{drop-cons}
 use lib.Dec.{leb, ltb, eqb}
 use borrow.Author.Tests.{ltb-true, ltb-false, leb-true, le-ltb, lt-ltb, le-leb, lt-leb, eqb-true, eqb-false}
-use Rattle.laws.proofs.ListLaws.{cases, both}
+use Rattle.laws.proofs.ListLaws.{cases, both, and_both}
 use Rattle.recording.specs.Format.{Rule, within, anything, right}
 
 -- ---- never past the rules, nor past the words
@@ -99,6 +99,9 @@ any-short (suc m) (w ∷ ws) h = let ih = any-short m ws (omega arith) in omega 
 pub within-true : (least most w : ℕ) → within least most w ≡ true → (least ≤ w) × (w ≤ most)
 within-true least most w e = let t = both (leb least w) (leb w most) e in (leb-true least w t.0, leb-true w most t.1)
 
+pub true-within : (least most w : ℕ) → least ≤ w → w ≤ most → within least most w ≡ true
+true-within least most w low high = and_both (leb least w) (leb w most) (le-leb least w low) (le-leb w most high)
+
 module _ (ws : List ℕ) (p : ℕ) where
   pub test-missing : (b : Bool) → length ws ≤ p → false ≡ (ltb p (length ws) && b)
   test-missing b h = ap (λ (x : Bool). x && b) (sym (le-ltb p (length ws) h))
@@ -115,7 +118,7 @@ module _ (ws : List ℕ) (p : ℕ) where
 
 -- ---- where every word is right
 
-step-true : (b : Bool) {r n : ℕ} → cond b (suc r) 0 ≡ suc n → (b ≡ true) × (r ≡ n)
+pub step-true : (b : Bool) {r n : ℕ} → cond b (suc r) 0 ≡ suc n → (b ≡ true) × (r ≡ n)
 step-true true e = (refl, omega arith)
 step-true false e = absurd (omega arith)
 

@@ -12,7 +12,7 @@ use lib.Dec.{eqb}
 use borrow.Author.Tests.{eqb-true}
 use Rattle.laws.proofs.ListLaws.{cases, both}
 use Rattle.recording.specs.declared.Recording.{Recording}
-use Rattle.recording.specs.declared.Contents.TheVariants.{Taken}
+use Rattle.std.specs.Prelude.{Ok}
 use Rattle.recording.specs.Format.{within, words_of, call_rules, calls_rules, layout, right, Read, reading_of, reading, given, calls_in, statuses_in}
 use Rattle.recording.proofs.Right.{right-at, right-whole, within-true}
 use Rattle.recording.proofs.Reach.{call_length, calls-length, layout-length, numbers, ending}
@@ -115,10 +115,10 @@ pub record Numbers (r : Recording) (ws : List ℕ) : Type 0 where
   pub rate-is : r.rate ≡ get_or ws 2 0
   pub calls_is : r.calls ≡ get_or ws 3 0
 
-pub status-taken : (bytes : List ℕ) (r : Recording) → given (Taken r) ≡ reading bytes → (reading bytes).status ≡ 0
+pub status-taken : (bytes : List ℕ) (r : Recording) → given (Ok r) ≡ reading bytes → (reading bytes).status ≡ 0
 status-taken bytes r e = sym (ap (λ (x : Read). x.status) e)
 
-pub numbers-taken : (bytes : List ℕ) (r : Recording) → given (Taken r) ≡ reading bytes → Numbers r (words_of bytes)
+pub numbers-taken : (bytes : List ℕ) (r : Recording) → given (Ok r) ≡ reading bytes → Numbers r (words_of bytes)
 numbers-taken bytes r e =
     let ws = words_of bytes in
     let z = status-taken bytes r e in

@@ -1,9 +1,9 @@
 -- Document 02, item 8: a recording, as bytes, and what its reader answers. Assumes nothing: these are definitions.
-use Rattle.std.specs.Prelude.{ℕ, zero, suc, ◌+◌, ◌-◌, ◌*◌, ◌/◌, ◌%◌, Bool, true, cond, ◌&&◌, List, [], ◌∷◌, ◌++◌, length, get_or, take, drop, replicate, leb, eqb}
+use Rattle.std.specs.Prelude.{ℕ, zero, suc, ◌+◌, ◌-◌, ◌*◌, ◌/◌, ◌%◌, Bool, true, cond, ◌&&◌, List, [], ◌∷◌, ◌++◌, length, get_or, take, drop, replicate, leb, eqb, Result, Ok, Err}
 use Rattle.model.specs.declared.Status.TheVariants.{InvalidNumber}
 use Rattle.model.specs.Status.{number_of}
-use Rattle.recording.specs.declared.Contents.{Contents}
-use Rattle.recording.specs.declared.Contents.TheVariants.{Taken, Refused}
+use Rattle.recording.specs.declared.Recording.{Recording}
+use Rattle.recording.specs.declared.WrongWord.{WrongWord}
 
 -- "A recording is little-endian 32-bit words": four bytes are a word, the lowest first; fewer at the end are none
 unfoldable pub words_of : List ℕ → List ℕ
@@ -92,9 +92,9 @@ abbrev pub reading : List ℕ → Read
 reading bytes = reading_of (length bytes) (words_of bytes)
 
 -- the reader's two cases in these numbers
-abbrev pub given : Contents → Read
-given (Taken r) = taken_with r.slots r.rate r.calls
-given (Refused p) = refused_at p
+abbrev pub given : Result Recording WrongWord → Read
+given (Ok r) = taken_with r.slots r.rate r.calls
+given (Err w) = refused_at w.position
 
 -- ---- what a recording that is taken holds
 

@@ -9,30 +9,30 @@ ghost use Rattle.recording_writer.specs.Writing as writer;
 ghost use Rattle.recording_c.specs.Exports.{place_number, exported, in_c};
 
 use answers::{number_in, status_of};
-use model::Status;
+use model::{SUCCESSFUL, Status};
 use playback::Replayed;
-use recording::Contents;
-use status::number_of;
+use recording::{Recording, WrongWord};
 
 // `HC_AGREE`, the place where no status differs.
 const AGREE: u32 = 4294967295;
 
-// The status of a reading, and the position of the first wrong word, 0 where there is none.
-fn read_status(contents: Contents) -> u32
+// The status of a reading, and the position of the first wrong word, 0 where there is none: what C is given. (A wrong word is no `Status`, so that
+// `answers::status_of` is not of it.)
+fn read_status(contents: Result<Recording, WrongWord>) -> u32
     ensures { result ≡ (given contents).status }
 {
     match contents {
-        Contents::Taken(_) => status::SUCCESSFUL,
-        Contents::Refused(_) => number_of(Status::InvalidNumber),
+        Ok(_) => SUCCESSFUL,
+        Err(_) => Status::InvalidNumber.into(),
     }
 }
 
-fn position_in(contents: Contents) -> u32
+fn position_in(contents: Result<Recording, WrongWord>) -> u32
     ensures { result ≡ (given contents).position }
 {
     match contents {
-        Contents::Taken(_) => 0,
-        Contents::Refused(position) => position,
+        Ok(_) => 0,
+        Err(wrong) => wrong.position,
     }
 }
 
@@ -41,11 +41,10 @@ fn replay_status(replayed: Replayed) -> u32
     ensures { result ≡ replay.status_of replayed }
 {
     match replayed {
-        Replayed::Agree => status::SUCCESSFUL,
-        Replayed::Differs(_) => status::SUCCESSFUL,
-        Replayed::Refused(_) => number_of(Status::InvalidNumber),
-        Replayed::ShortTable => number_of(Status::InvalidSize),
-        Replayed::ShortList => number_of(Status::ListTooShort),
+        Replayed::Agree | Replayed::Differs(_) => SUCCESSFUL,
+        Replayed::Refused(_) => Status::InvalidNumber.into(),
+        Replayed::ShortTable => Status::InvalidSize.into(),
+        Replayed::ShortList => Status::ListTooShort.into(),
     }
 }
 
@@ -56,8 +55,7 @@ fn place_in(replayed: Replayed) -> u32
         Replayed::Agree => AGREE,
         Replayed::Differs(place) => place,
         Replayed::Refused(position) => position,
-        Replayed::ShortTable => 0,
-        Replayed::ShortList => 0,
+        Replayed::ShortTable | Replayed::ShortList => 0,
     }
 }
 

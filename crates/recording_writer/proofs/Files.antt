@@ -79,6 +79,8 @@ module _ (slots rate : ℕ) (calls statuses : List ℕ) where
         all = sym (calls-right n calls (n ∷ statuses) eleven) ∙ k.called;
       }
 
+  pub ruleset facts = (fitting-facts)
+
   pub file-taken : Fitting slots rate calls statuses → reading (file_of slots rate calls statuses) ≡ taken_with slots rate (length statuses)
   file-taken f =
       let words = ws slots rate calls statuses in

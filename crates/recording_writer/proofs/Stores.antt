@@ -1,10 +1,12 @@
 -- The bytes of words: how many, and their words again; and words stored one run behind another. Assumes nothing.
 use mathlib.Core.Path.{◌≡◌, refl, sym, ap, ◌∙◌}
-use Prim.Native.Nat.{ℕ, suc, ◌+◌, ◌*◌, ◌/◌, ◌%◌, ◌≤◌}
+use Prim.Native.Nat.{ℕ, suc, ◌+◌, ◌*◌, ◌/◌, ◌%◌, ◌^◌, ◌<◌, ◌≤◌}
 use native.Mathlib.Omega.{arith}
 use mathlib.Core.List.{List, [], ◌∷◌, ◌++◌}
 use lib.ListN.{length, set, drop}
 use lib.Seq.{sets, sets-eq}
+use mir.Syntax.{w32}
+use Rattle.std.specs.Int.{to_le_bytes}
 use Rattle.recording.specs.Format.{words_of, bytes_of}
 
 pub bytes-length : (ws : List ℕ) → length (bytes_of ws) ≡ 4 * length ws
@@ -27,12 +29,11 @@ words-bytes (w ∷ ws) = λ j. word_bytes w j ∷ words-bytes ws j
 
 -- ---- stores, one run after another
 
-pub four-sets : (l : List ℕ) (a x y z w : ℕ) → set (set (set (set l a x) (a + 1) y) (a + 2) z) (a + 3) w ≡ sets l a (x ∷ y ∷ z ∷ w ∷ [])
-four-sets l a x y z w =
-    let one : a + 1 ≡ suc a = omega arith in
-    let two : a + 2 ≡ suc (suc a) = omega arith in
-    let three : a + 3 ≡ suc (suc (suc a)) = omega arith in
-    λ j. set (set (set (set l a x) (one j) y) (two j) z) (three j) w
+pub le-bytes : (w : ℕ) → w < 2 ^ 32 → to_le_bytes w32 w ≡ bytes_of (w ∷ [])
+unfolding bytes_of
+le-bytes w h =
+    let e : w / 256 ^ 3 % 256 ≡ w / 16777216 = omega arith in
+    ap {B = List ℕ} (λ (b : ℕ). w % 256 ∷ w / 256 % 256 ∷ w / 65536 % 256 ∷ b ∷ []) e
 
 sets-on : (l : List ℕ) (a : ℕ) (vs us : List ℕ) → sets (sets l a vs) (a + length vs) us ≡ sets l a (vs ++ us)
 sets-on l a [] us = ap (λ (n : ℕ). sets l n us) none

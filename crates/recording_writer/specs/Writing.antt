@@ -2,7 +2,8 @@
 use Rattle.std.specs.Prelude.{ℕ, ◌*◌, Bool, cond, not, ◌&&◌, List, [], ◌∷◌, ◌++◌, length, get_or, drop, ltb, eqb}
 use Rattle.model.specs.declared.Status.TheVariants.{InvalidNumber, InvalidSize}
 use Rattle.model.specs.Status.{Refusal, when, first_of}
-use Rattle.answers.specs.declared.Answer.{Answer}
+use Rattle.model.specs.declared.Status.{Status}
+use Rattle.std.specs.declared.result.Result.{Result}
 use Rattle.answers.specs.Answers.{status_of, answer_of}
 use Rattle.recording.specs.Format.{bytes_of, reading}
 
@@ -32,7 +33,7 @@ abbrev pub output : ℕ → ℕ → List ℕ → Output
 output status answer buffer = record { status = status; answer = answer; buffer = buffer }
 
 -- the status of an answer and its number, which is the length
-abbrev pub output_of : Answer → List ℕ → Output
+abbrev pub output_of : Result ℕ Status → List ℕ → Output
 output_of r buffer = output (status_of r) (get_or (answer_of r) 0 0) buffer
 
 -- "the buffer then stays, as do bytes past the file"

@@ -31,8 +31,7 @@ fn show(rt: &impl Print, replayed: Replayed) -> io::Result<()>
         Replayed::Agree => println!(rt; "agree"),
         Replayed::Differs(place) => println!(rt; "{place}"),
         Replayed::Refused(position) => println!(rt; "refused {position}"),
-        Replayed::ShortTable => unreachable!(),
-        Replayed::ShortList => unreachable!(),
+        Replayed::ShortTable | Replayed::ShortList => unreachable!(),
     }
 }
 
@@ -45,7 +44,8 @@ fn replay_any(bytes: &[u8]) -> Replayed
     playback::replay(bytes, &mut table, &mut list)
 }
 
-// Reads until the buffer is full or the input at its end, and gives how many bytes there were.
+// Reads until the buffer is full or the input at its end, and gives how many bytes there were. (Each turn goes on by as many as came, so it is no `for`; std's
+// `read_to_end` is of a Vec, on a heap; `edges` has its own, since no library here reads.)
 fn read_full(reader: &mut impl Read, buffer: &mut [u8]) -> io::Result<usize>
     ensures { IfOk result (λ n. n ≤ length buffer.new) }
 {

@@ -14,8 +14,8 @@ use Rattle.model.specs.Calls.{server_fire_after, server_fire_when}
 use Rattle.model.specs.Directives.{start_rules, date_rules, not_initiated}
 use Rattle.model.specs.Words.{read}
 use Rattle.model.specs.Outcome.{outcome}
-use Rattle.answers.specs.declared.Answer.{Answer}
-use Rattle.answers.specs.declared.Answer.TheVariants.{Done, Refused}
+use Rattle.std.specs.declared.result.Result.{Result}
+use Rattle.std.specs.declared.result.Result.TheVariants.{Ok, Err}
 use Rattle.answers.specs.Openings.{Opens}
 use Rattle.opening.specs.Parties.{on_party}
 use Rattle.starting.specs.Starts.{start_outcome}
@@ -37,11 +37,11 @@ module _ {t : List ℕ} {party : ℕ} (h : Initiated t party) (id r u : ℕ) whe
 
 -- ---- what the opening of a party refuses, the opening of the server refuses
 
-abbrev is_done : Answer → ℕ
-is_done (Done n) = 1
-is_done (Refused s) = 0
+abbrev is_done : Result ℕ Status → ℕ
+is_done (Ok n) = 1
+is_done (Err s) = 0
 
-pub no-party : {t : List ℕ} {party : ℕ} {P : ℕ → Type 0} {r : Answer} {s : Status} → Opens (on_party t party) P r → r ≡ Refused s
+pub no-party : {t : List ℕ} {party : ℕ} {P : ℕ → Type 0} {r : Result ℕ Status} {s : Status} → Opens (on_party t party) P r → r ≡ Err s
     → Opens (on_server t party) (λ _. Initiated t party) r
 no-party {t} o e = record {
   holds = λ n f. let z : ◌≡◌ {A = ℕ} 0 1 = ap is_done (sym e ∙ f) in absurd (omega arith);

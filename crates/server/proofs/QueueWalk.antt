@@ -2,23 +2,26 @@
 -- front of those that are the party's own. Assumes nothing.
 use mathlib.Core.Path.{◌≡◌, refl, sym, ap, ◌∙◌}
 use mathlib.Core.Logic.{◌≢◌}
-use Prim.Native.Nat.{ℕ, zero, suc, ◌+◌, ◌*◌, ◌≤◌, ◌<◌}
+use Prim.Native.Nat.{ℕ, suc, ◌+◌, ◌*◌, ◌≤◌, ◌<◌}
 use native.Mathlib.Omega.{arith}
 use mathlib.Core.Bool.{Bool, true, false, cond}
 use mathlib.Core.List.{List, [], ◌∷◌, ◌++◌, append_assoc, append-nil}
 use lib.ListN.{length, take}
 use lib.Dec.{eqb}
 use borrow.Author.Tests.{eqb-true, eqb-false, eq-eqb, ne_eqb}
+use Rattle.std.specs.Prelude.{Some, None}
 use Rattle.model.specs.declared.Chain.TheVariants.{Queue}
 use Rattle.model.specs.Lists.{keep, drop_first, All}
 use Rattle.model.specs.Parties.{owner_of}
 use Rattle.model.specs.State.{Link, without}
 use Rattle.model.specs.Directives.{is_own, front}
 use Rattle.model.specs.Words.{first, read, party_split, first_queued, next_of}
-use Rattle.laws.proofs.ListLaws.{cases, clash, keep_append, count-append}
+use Rattle.laws.proofs.ListLaws.{cases, keep_append, count-append}
 use Rattle.laws.proofs.WellFormed.{times_in, Holds}
-use Rattle.laws.proofs.Chains.{without-none, once, met-in-range}
+use Rattle.laws.proofs.Chains.{without-none, met-in-range}
 use Rattle.links.proofs.LinkInMiddle.{times-at, mid-stands, mid-own, mid-once}
+use Rattle.slots.specs.Search.{some_slot}
+use Rattle.slots.proofs.Laws.{slot-some, slot-none}
 use Rattle.firing.proofs.Heads.{head_of}
 
 -- ---- lists of links
@@ -129,12 +132,12 @@ pub walk_start : {t : List ℕ} (party : ℕ) {i : ℕ} → Holds t (read t) →
 walk_start {t} party h e = record { holds = h; others = []; back = (read t).queue; whole = refl; not-those = refl; next = e ∙ head_of Queue h }
 
 module _ {t : List ℕ} {party i : ℕ} (a : Passed t party i) where
-  pub walk_end : i ≡ 0 → 0 ≡ first (front (read t) party)
-  walk_end e = go a.back refl
+  pub walk_end : i ≡ 0 → None ≡ some_slot (first (front (read t) party))
+  walk_end e = slot-none _ (go a.back refl)
     where
-      go : (ys : List Link) → a.back ≡ ys → 0 ≡ first (front (read t) party)
+      go : (ys : List Link) → a.back ≡ ys → first (front (read t) party) ≡ 0
       go [] q =
-          sym (ap (λ (l : List Link). first (take 1 (keep (is_own (read t) party) l)))
+          (ap (λ (l : List Link). first (take 1 (keep (is_own (read t) party) l)))
           (a.whole ∙ ap (λ (l : List Link). a.others ++ l) q ∙ append-nil a.others)
           ∙ ap (λ (l : List Link). first (take 1 l)) a.not-those)
       go (y ∷ ys) q =
@@ -163,13 +166,13 @@ module _ {t : List ℕ} {party i : ℕ} (a : Passed t party i) where
     owned : is_own (read t) party here.entry ≡ eqb (owner_of (party_split t) i) party
     owned = ap (λ (j : ℕ). eqb (owner_of (party_split t) j) party) (sym here.slot)
 
-    pub walk-found : owner_of (party_split t) i ≡ party → i ≡ first (front (read t) party)
+    pub walk-found : owner_of (party_split t) i ≡ party → Some i ≡ some_slot (first (front (read t) party))
     walk-found e =
-        here.slot
+        slot-some _ i (here.slot
         ∙ sym (ap (λ (l : List Link). first (take 1 (keep (is_own (read t) party) l))) here.whole_is
         ∙ ap (λ (l : List Link). first (take 1 l))
         (first-kept (is_own (read t) party) a.others here.entry here.behind a.not-those
-        (owned ∙ eq-eqb (owner_of (party_split t) i) party e)))
+        (owned ∙ eq-eqb (owner_of (party_split t) i) party e)))) (omega (arith, some))
 
     pub walk-on : (owner_of (party_split t) i ≡ party → ⊥) → Passed t party (next_of t i)
     walk-on n =

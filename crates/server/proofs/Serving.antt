@@ -9,6 +9,7 @@ use mathlib.Core.List.{List, [], ◌∷◌, map}
 use lib.ListN.{length, set, take, drop}
 use lib.Seq.{sets}
 use borrow.Author.Tests.{eq-eqb, ne_eqb}
+use Rattle.std.specs.Prelude.{Option, Some, None}
 use Rattle.model.specs.declared.Chain.TheVariants.{Queue}
 use Rattle.model.specs.Lists.{keep, drop_first}
 use Rattle.model.specs.Kinds.{kind_at, waits_in}
@@ -27,6 +28,8 @@ use Rattle.laws.proofs.Steps.{same-state, with-chain-apart, stopped-chain}
 use Rattle.links.specs.Places.{InTable}
 use Rattle.links.proofs.Storing.{same-slots}
 use Rattle.links.proofs.LinkInMiddle.{times-at, mid-own, mid-once}
+use Rattle.slots.specs.Search.{some_slot}
+use Rattle.slots.proofs.Laws.{is_slot, no_slot}
 use Rattle.firing.proofs.Entries.{sets-written}
 use Rattle.server.specs.HandedOut.{HandedOut}
 use Rattle.server.proofs.QueueWalk.{First, found, first-kept, none_kept, dropped, without-mid, ahead_of}
@@ -51,7 +54,7 @@ pub record Served (t : List ℕ) (party : ℕ) (list : List ℕ) (m : ℕ) (t' l
 served-kind : (n : ℕ) → waits_in Queue n ≡ true → (kind_at n).when_fired ≡ (kind_at n).when_stopped
 served-kind = of-chain Queue (λ x. x.when_fired) (λ x. x.when_stopped) refl
 
-module _ {t : List ℕ} (h : Holds t (read t)) (party : ℕ) {i : ℕ} (here : i ≡ first (front (read t) party)) where
+module _ {t : List ℕ} (h : Holds t (read t)) (party : ℕ) {r : Option ℕ} (answer : r ≡ some_slot (first (front (read t) party))) where
   abbrev s : State
   s = read t
 
@@ -79,10 +82,10 @@ module _ {t : List ℕ} (h : Holds t (read t)) (party : ℕ) {i : ℕ} (here : i
         ap (λ (l : List Link). take 1 (keep own l)) f.whole
         ∙ ap (take 1) (first-kept own f.others e f.back f.not-those f.is)
 
-    at : i ≡ e.slot
-    at = here ∙ ap first one
+    at : first (front s party) ≡ e.slot
+    at = ap first one
 
-  pub serve-none : (list : List ℕ) → i ≡ 0 → Served t party list 0 t list
+  pub serve-none : (list : List ℕ) → r ≡ None → Served t party list 0 t list
   serve-none list z = none which
     where
       none : Which → Served t party list 0 t list
@@ -96,9 +99,15 @@ module _ {t : List ℕ} (h : Holds t (read t)) (party : ℕ) {i : ℕ} (here : i
           }
       none (inr f) =
           let low = (mid-own Queue t s h f.others f.entry f.back f.whole).0 in
-          absurd (omega (arith, at f))
+          absurd (omega (arith, at f, no_slot answer z))
 
-  module _ (some : i ≢ 0) where
+  module _ {i : ℕ} (found-at : r ≡ Some i) where
+    here : i ≡ first (front s party)
+    here = (is_slot answer found-at).0
+
+    some : i ≢ 0
+    some = (is_slot answer found-at).1
+
     pub a : First own s.queue
     a = there which
       where
@@ -109,16 +118,19 @@ module _ {t : List ℕ} (h : Holds t (read t)) (party : ℕ) {i : ℕ} (here : i
     abbrev j : ℕ
     j = a.entry.slot
 
+    here-at : i ≡ j
+    here-at = here ∙ at a
+
     in-range : (0 < j) × (j ≤ length s.slots)
     in-range = mid-own Queue t s h a.others a.entry a.back a.whole
 
     pub serve-place : InTable t i
     serve-place =
         let r = in-range in
-        record { holds = h; low = omega (arith, at a); high = omega (arith, at a, slots_length t) }
+        record { holds = h; low = omega (arith, here-at); high = omega (arith, here-at, slots_length t) }
 
     own-slot : slot_at s.slots j ≡ slot_from t i
-    own-slot = ap (slot_at s.slots) (sym (at a)) ∙ slot_read t i serve-place.low serve-place.high
+    own-slot = ap (slot_at s.slots) (sym here-at) ∙ slot_read t i serve-place.low serve-place.high
 
     here-once : times_in s.queue j ≡ 1
     here-once =
@@ -158,11 +170,11 @@ module _ {t : List ℕ} (h : Holds t (read t)) (party : ℕ) {i : ℕ} (here : i
     serve-some list long f =
         let fs = map (listed s.slots) (a.entry ∷ []) in
         record {
-          table = f.table ∙ ap (λ (k : ℕ). written_over (stopped s k (idled (slot_at s.slots k))) t) (at a)
+          table = f.table ∙ ap (λ (k : ℕ). written_over (stopped s k (idled (slot_at s.slots k))) t) here-at
               ∙ ap (λ (z : State). written_over z t) (sym handed-is);
           answer = ap {B = List ℕ} (λ (q : List Link). length q ∷ []) (sym (one a));
           entries = f.entry
-              ∙ (λ d. sets list 0 ((id_base + at a d) ∷ (sym own-slot d).routine ∷ (sym own-slot d).user_data ∷ []))
+              ∙ (λ d. sets list 0 ((id_base + here-at d) ∷ (sym own-slot d).routine ∷ (sym own-slot d).user_data ∷ []))
               ∙ sets-written fs list (omega arith)
               ∙ ap (λ (q : List Link). written (map (listed s.slots) q) list) (sym (one a));
         }

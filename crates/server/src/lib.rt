@@ -2,59 +2,56 @@
 // and serve. Their contracts are as those of crate `timer`.
 #![tactic(auto)]
 
-ghost use Rattle.std.specs.Prelude.{◌≡◌, true, [], ◌≤◌, length};
+ghost use Rattle.std.specs.Prelude.{◌≡◌, [], ◌≤◌, length};
 ghost use Rattle.model.specs.Calls as call;
 ghost use Rattle.model.specs.Directives.{front};
 ghost use Rattle.model.specs.Words.{first, read};
-ghost use Rattle.model.specs.Sound.{sound};
 ghost use Rattle.model.specs.Outcome.{outcome_of, outcome};
-ghost use Rattle.links.specs.Places.{InTable};
+ghost use Rattle.links.specs.Tables.{SameWords};
+ghost use Rattle.links.specs.Places.{IsSlot};
+ghost use Rattle.slots.specs.Search.{some_slot};
 ghost use Rattle.answers.specs.Answers.{status_of, answer_of};
 ghost use Rattle.answers.specs.Openings.{Opens};
 ghost use Rattle.server.specs.Initiated.{on_server, Initiated};
 ghost use Rattle.server.specs.HandedOut.{HandedOut};
 
-use answers::Answer;
 use calendar::WallTime;
 use firing::put_entry;
 use going_on::ENTRY;
-use links::stop;
+use links::Table;
 use model::{Mode, Status};
 use opening::open_party;
-use slots::{ID_BASE, is_party, owner};
+use slots::{ID_BASE, Sound, is_party, owner};
 use soundness::is_sound;
 use starting::{start_for_date, start_for_ticks};
 use table::{DATA, FIRST_QUEUED, NEXT, PARTY_SPLIT, ROUTINE, SERVER, get};
 
 // The caller is a party and the server is initiated; refused where the table is not sound, no party has this number, or it is not.
-fn open_server(table: &[u32], party: u32) -> Answer
+fn open_server(table: &[u32], party: u32) -> Result<u32, Status>
     ensures { Opens (on_server table.now party) (λ _. Initiated table.now party) result }
 {
-    let opened = open_party(table, party);
-    let Answer::Done(_) = opened else {
-        return opened;
-    };
+    open_party(table, party)?;
     if table[SERVER] != 1 {
-        return Answer::Refused(Status::IncorrectState);
+        return Err(Status::IncorrectState);
     }
-    Answer::Done(0)
+    Ok(0)
 }
 
 // From now on there are server timers. Once since the lay out.
-pub fn initiate_server(table: &mut [u32]) -> Answer
+pub fn initiate_server(table: &mut [u32]) -> Result<u32, Status>
     ensures { outcome_of (status_of result) (answer_of result) table.new [] ≡ outcome table.old call.initiate_server }
 {
     if !is_sound(table) {
-        return Answer::Refused(Status::NotSound);
+        return Err(Status::NotSound);
     }
     if table[SERVER] == 1 {
-        return Answer::Refused(Status::IncorrectState);
+        return Err(Status::IncorrectState);
     }
     table[SERVER] = 1;
-    Answer::Done(0)
+    Ok(0)
 }
 
-// A timer is queued so many ticks from now.
+// A timer is queued so many ticks from now. (This start and the next are like those of `starts` but for opening and mode: each has an equation of its own.)
 pub fn server_fire_after(
     table: &mut [u32],
     party: u32,
@@ -62,13 +59,10 @@ pub fn server_fire_after(
     ticks: u32,
     routine: u32,
     user_data: u32,
-) -> Answer
+) -> Result<u32, Status>
     ensures { outcome_of (status_of result) (answer_of result) table.new [] ≡ outcome table.old (call.server_fire_after party id ticks routine user_data) }
 {
-    let opened = open_server(table, party);
-    let Answer::Done(_) = opened else {
-        return opened;
-    };
+    open_server(table, party)?;
     start_for_ticks(
         table,
         Mode::ServerAfter,
@@ -88,64 +82,64 @@ pub fn server_fire_when(
     when: WallTime,
     routine: u32,
     user_data: u32,
-) -> Answer
+) -> Result<u32, Status>
     ensures { outcome_of (status_of result) (answer_of result) table.new [] ≡ outcome table.old (call.server_fire_when party id when routine user_data) }
 {
-    let opened = open_server(table, party);
-    let Answer::Done(_) = opened else {
-        return opened;
-    };
+    open_server(table, party)?;
     start_for_date(table, Mode::ServerWhen, party, id, when, routine, user_data)
 }
 
-// The slot of the party's first queued timer; 0 if it has none.
-fn first_queued(t: &[u32], party: u32) -> u32
-    requires { sound t.now ≡ true }
-    ensures { result ≡ first (front (read t.now) party) }
+// The slot of the party's first queued timer.
+fn first_queued(t: Sound, party: u32) -> Option<u32>
+    ensures { result ≡ some_slot (first (front (read t.entry.words.now) party)) }
 {
-    let split = t[PARTY_SPLIT];
-    let mut i = t[FIRST_QUEUED];
+    let split = t.words[PARTY_SPLIT];
+    let mut i = t.words[FIRST_QUEUED];
+    // (along the links: no range counts these turns)
     while i != 0 {
         if owner(split, i) == party {
-            return i;
+            return Some(i);
         }
-        i = get(t, i, NEXT);
+        i = get(t.words, i, NEXT);
     }
-    0
+    None
 }
 
-// The timer of slot i is handed out: its three words go to the list, and it is idle then.
-fn hand_out(t: &mut [u32], list: &mut [u32], i: u32)
-    requires { InTable t.old i × (3 ≤ length list.old) }
-    ensures { HandedOut t.old list.old i t.new list.new }
+// The timer of slot i is handed out: its three words go to the list, and it is idle then. (Not by `firing::come_off`, which takes the first of a chain:
+// the party's own may stand behind others in the queue.)
+fn hand_out(table: &mut Table<'_>, list: &mut [u32], i: u32)
+    requires slot { IsSlot table.old.words.now i }
+    requires room { 3 ≤ length list.old }
+    ensures same { SameWords table.old table.new }
+    ensures handed { HandedOut table.old.words.now list.old i table.new.words.now list.new }
 {
-    let routine = get(t, i, ROUTINE);
-    let user_data = get(t, i, DATA);
+    let routine = table.get(i, ROUTINE);
+    let user_data = table.get(i, DATA);
     put_entry(list, 0, ID_BASE + i, routine, user_data);
-    stop(t, i);
+    table.stop(i);
 }
 
 // The party's first queued timer is handed out: its three words go to the list, and it is idle then. Answers 1, or 0 if it has none.
-pub fn serve(table: &mut [u32], party: u32, served: &mut [u32]) -> Answer
+pub fn serve(table: &mut [u32], party: u32, served: &mut [u32]) -> Result<u32, Status>
     ensures { outcome_of (status_of result) (answer_of result) table.new served.new ≡ outcome table.old (call.serve party served.old) }
 {
     if !is_sound(table) {
-        return Answer::Refused(Status::NotSound);
+        return Err(Status::NotSound);
     }
     if served.len() < ENTRY {
-        return Answer::Refused(Status::ListTooShort);
+        return Err(Status::ListTooShort);
     }
     if !is_party(table[PARTY_SPLIT], party) {
-        return Answer::Refused(Status::InvalidId);
+        return Err(Status::InvalidId);
     }
     let initiated = table[SERVER];
     if initiated != 1 {
-        return Answer::Refused(Status::IncorrectState);
+        return Err(Status::IncorrectState);
     }
-    let i = first_queued(table, party);
-    if i == 0 {
-        return Answer::Done(0);
-    }
-    hand_out(table, served, i);
-    Answer::Done(1)
+    let Some(i) = first_queued(Sound { words: table }, party) else {
+        return Ok(0);
+    };
+    let mut timers = Table { words: table };
+    hand_out(&mut timers, served, i);
+    Ok(1)
 }

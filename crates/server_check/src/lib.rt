@@ -10,7 +10,7 @@ use server_word_checks::{WRONG, slot_place};
 use table::*;
 use walks::*;
 
-// No slot has this number: the table is not sound.
+// No slot has this number: the table is not sound. (By an `Option` the pass takes 2.6 % more instructions.)
 pub const UNSOUND: u32 = MOST_SLOTS + 1;
 
 // The last slot of the queue, 0 if the queue is empty, of a table whose header is sound and whose server is initiated; UNSOUND if the table is not
@@ -33,6 +33,7 @@ pub fn last_queued(t: &[u32]) -> u32
     let mut queue_at = t[FIRST_QUEUED];
     let mut queue_before = 0;
     let mut i = 1;
+    // (by `while`, as in crate `plain_check`)
     while i <= n {
         let place = slot_place(&*t, i);
         if place == WRONG {

@@ -10,8 +10,23 @@ ghost use Rattle.server_word_checks.specs.Places.{place_of};
 use table::*;
 use word_checks::{is_unlinked, new_tested};
 
+// The kinds that are told apart here, as words: see crate `word_checks`.
+const NEVER_STARTED: u32 = Kind::NeverStarted as u32;
+
+const IDLE_DATE: u32 = Kind::IdleDate as u32;
+
+const WAITING_DATE: u32 = Kind::WaitingDate as u32;
+
+const SERVER_IDLE_DATE: u32 = Kind::ServerIdleDate as u32;
+
+const SERVER_WAITING_DATE: u32 = Kind::ServerWaitingDate as u32;
+
+const QUEUED_TICKS: u32 = Kind::QueuedTicks as u32;
+
+const QUEUED_DATE: u32 = Kind::QueuedDate as u32;
+
 // The place of a slot: the word that holds the first slot of the chain in which it stands. These are no such words: the slot stands in no chain; its
-// words are wrong.
+// words are wrong. (An enum would name the three words a second time.)
 pub const NOWHERE: usize = 0;
 
 pub const WRONG: usize = 1;
@@ -30,21 +45,16 @@ fn place_if(right: bool, place: usize) -> usize
 fn waits_for_date(kind: u32) -> bool
     ensures { result ≡ waits_in ByDate kind }
 {
-    if kind == WAITING_DATE {
-        return true;
-    }
-    kind == SERVER_WAITING_DATE
+    matches!(kind, WAITING_DATE | SERVER_WAITING_DATE)
 }
 
-// Slot i is idle: wait and links are zero, and the interval is zero just where the last start was by date. No branch depends on which it was.
+// Slot i is idle: wait and links are zero, and the interval is zero just where the last start was by date. No branch depends on which it was. (Crate
+// `word_checks` has its own, with one: without, the pass that knows no server timers executes 0.2 % more instructions.)
 fn idle_tested(t: &[u32], i: u32, dated: bool) -> bool
     requires { 8 * i + 10 ≤ length t.now }
     ensures { result ≡ idle_tested t.now i dated }
 {
-    if !is_unlinked(t, i) {
-        return false;
-    }
-    (get(t, i, INTERVAL) == 0) == dated
+    is_unlinked(t, i) && (get(t, i, INTERVAL) == 0) == dated
 }
 
 // The place of slot i, if its words are right for its kind, 0 to 13; else WRONG. The wait and the links of a slot in a chain are left to the walks,

@@ -2,7 +2,8 @@
 // status, a space, answer, both in decimal.
 #![tactic(auto)]
 
-use answers::{Answer, number_in, status_of};
+use answers::{number_in, status_of};
+use model::Status;
 use std::io;
 use table::{ONE_PARTY, PARTY_1};
 
@@ -15,8 +16,8 @@ const TABLE: usize = 34;
 
 const LIST: usize = 9;
 
-// Prints the line of an answer, and gives its number.
-fn line(rt: &impl Print, answer: Answer) -> io::Result<u32> {
+// Prints the line of an answer, and gives its number. (A `Display` would want a type of our own around each answer.)
+fn line(rt: &impl Print, answer: Result<u32, Status>) -> io::Result<u32> {
     let number = number_in(answer);
     println!(rt; "{} {number}", status_of(answer))?;
     Ok(number)
@@ -39,10 +40,8 @@ fn main(rt: HostRuntime) -> io::Result<()> {
     let mut table = [0u32; TABLE];
     let mut fired = [0u32; LIST];
     start_both(&rt, &mut table)?;
-    line(&rt, clock::tick(&mut table, &mut fired))?;
-    line(&rt, clock::tick(&mut table, &mut fired))?;
-    line(&rt, clock::tick(&mut table, &mut fired))?;
-    line(&rt, clock::tick(&mut table, &mut fired))?;
-    line(&rt, clock::tick(&mut table, &mut fired))?;
+    for _ in 0..5 {
+        line(&rt, clock::tick(&mut table, &mut fired))?;
+    }
     Ok(())
 }

@@ -10,6 +10,7 @@ use lib.ListN.{length, get_or, set, drop, replicate, length-replicate, replicate
 use lib.Seq.{set_at, drop-cons}
 use lib.Dec.{eqb}
 use borrow.Author.Tests.{eqb-true, eq-eqb, ne_eqb, le-leb, lt-leb, not-false}
+use Rattle.std.proofs.lemmas.Option.{none-some}
 use Rattle.model.specs.State.{Slot, slot_at, lowest, id_base, index_of, names_own}
 use Rattle.model.specs.Directives.{lowest_free, lowest_named}
 use Rattle.model.specs.Words.{field, read, slot_from, slots_from, slot_count, party_split, kind_of}
@@ -20,7 +21,8 @@ use Rattle.laws.proofs.ReadBack.{slots_length, slot_read}
 use Rattle.laws.proofs.AcceptedCalls.{Named, known, known-own}
 use Rattle.laws.proofs.PartyLaws.{range-searched}
 use Rattle.laws.proofs.SoundHolds.{sound-header}
-use Rattle.slots.specs.Search.{lowest_with, lowest_in, lowest_own, named_slot}
+use Rattle.std.specs.Prelude.{Option, Some, None, Result, Ok, Err, ok_or}
+use Rattle.slots.specs.Search.{some_slot, lowest_with, lowest_in, lowest_own, named_slot}
 
 -- ---- whose slots
 
@@ -50,6 +52,9 @@ module _ (split : ℕ) where
     pub first_one : (party ≡ 2 → ⊥) → 1 ≡ first_own split party
     first_one n = rw (ne_eqb party 2 n)
 
+    pub first-least : 1 ≤ first_own split party
+    first-least = cases (eqb party 2) (λ e. rw e (omega arith)) (λ e. rw e (omega arith))
+
     module _ (n : ℕ) where
       pub last-two : (party ≡ 1 → ⊥) → n ≡ last_own split n party
       last-two m = rw (ne_eqb party 1 m)
@@ -62,6 +67,55 @@ module _ (split : ℕ) where
 
       pub last_within : split < n → last_own split n party ≤ n
       last_within h = cases (eqb party 1 && not (eqb split 0)) (λ e. rw e (omega arith)) (λ e. rw e (omega arith))
+
+-- ---- a slot or none
+
+pub slot-some : (n i : ℕ) → i ≡ n → 0 < i → Some i ≡ some_slot n
+slot-some zero i e h = absurd (omega (arith, e, h))
+slot-some (suc n) i e h = ap Some e
+
+pub slot-none : (n : ℕ) → n ≡ 0 → None ≡ some_slot n
+slot-none zero e = refl
+slot-none (suc n) e = absurd (omega (arith, e))
+
+abbrev number_or_0 : Option ℕ → ℕ
+number_or_0 None = 0
+number_or_0 (Some n) = n
+
+-- what a caller learns of an answer
+module _ {r : Option ℕ} {n : ℕ} (answer : r ≡ some_slot n) where
+  number-is : number_or_0 r ≡ n
+  number-is = ap number_or_0 answer ∙ go n
+    where
+      go : (m : ℕ) → number_or_0 (some_slot m) ≡ m
+      go zero = refl
+      go (suc m) = refl
+
+  pub is_slot : {i : ℕ} → r ≡ Some i → (i ≡ n) × (i ≡ 0 → ⊥)
+  is_slot {i} e = let is : i ≡ n = sym (ap number_or_0 e) ∙ number-is in (is, λ z. not_zero n i (sym e ∙ answer) (sym is ∙ z))
+    where
+      not_zero : (m i : ℕ) → Some i ≡ some_slot m → m ≡ 0 → ⊥
+      not_zero zero i e z = none-some i (sym e)
+      not_zero (suc m) i e z = omega (arith, z)
+
+  pub no_slot : r ≡ None → n ≡ 0
+  no_slot e = sym number-is ∙ ap number_or_0 e
+
+-- where none is a refusal, it is that refusal
+pub refused_as : {T E : Type 0} (r : Option T) {s d : E} → Err s ≡ ok_or r d → s ≡ d
+refused_as {T} {E} r {s} {d} e = go r e
+  where
+    or-else : Result T E → E
+    or-else (Ok n) = s
+    or-else (Err x) = x
+
+    is_ok : Result T E → ℕ
+    is_ok (Ok n) = 1
+    is_ok (Err x) = 0
+
+    go : (r : Option T) → Err s ≡ ok_or r d → s ≡ d
+    go None e = ap or-else e
+    go (Some n) e = let z : ◌≡◌ {A = ℕ} 0 1 = ap is_ok e in absurd (omega arith)
 
 -- ---- the lowest slot
 

@@ -1,8 +1,13 @@
 -- Searches over the words of the slots, as this crate's functions promise them. Assumes nothing: these are definitions.
-use Rattle.std.specs.Prelude.{ℕ, zero, suc, ◌-◌, cond, List, eqb}
+use Rattle.std.specs.Prelude.{ℕ, zero, suc, ◌-◌, cond, List, Option, Some, None, eqb}
 use Rattle.model.specs.Parties.{first_own, last_own}
 use Rattle.model.specs.State.{index_of, names_own}
 use Rattle.model.specs.Words.{field, read, slot_count, party_split}
+
+-- the slot that a search of the model or of this file gives, as the code answers it: 0 is none
+abbrev pub some_slot : ℕ → Option ℕ
+some_slot zero = None
+some_slot (suc n) = Some (suc n)
 
 -- the lowest of m slots from i on whose word f is v; 0 if there is none
 unfoldable pub lowest_with : List ℕ → ℕ → ℕ → ℕ → ℕ → ℕ

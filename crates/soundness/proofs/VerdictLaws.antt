@@ -13,16 +13,15 @@ use Rattle.laws.proofs.ListLaws.{cases, all-at}
 use Rattle.word_checks.proofs.HeaderTests.{header-ranges}
 use Rattle.server_check.specs.LastSlots.{last_queued, last_if_sound}
 use Rattle.server_check.proofs.LastSlot.{last-in-table}
-use Rattle.soundness.specs.declared.Verdict.{Verdict}
-use Rattle.soundness.specs.declared.Verdict.TheVariants.{Unsound, Sound}
+use Rattle.std.specs.Prelude.{Some, None}
 use Rattle.soundness.specs.Verdicts.{verdict}
 
 module _ (t : List ℕ) where
-  pub says-unsound : false ≡ sound t → Unsound ≡ verdict t
-  says-unsound e = ap (λ (b : Bool). cond b (Sound (last_queued t)) Unsound) e
+  pub says-unsound : false ≡ sound t → None ≡ verdict t
+  says-unsound e = ap (λ (b : Bool). cond b (Some (last_queued t)) None) e
 
-  pub says-sound : (last : ℕ) → sound t ≡ true → last_queued t ≡ last → Sound last ≡ verdict t
-  says-sound last e l = ap Sound (sym l) ∙ ap (λ (b : Bool). cond b (Sound (last_queued t)) Unsound) (sym e)
+  pub says-sound : (last : ℕ) → sound t ≡ true → last_queued t ≡ last → Some last ≡ verdict t
+  says-sound last e l = ap Some (sym l) ∙ ap (λ (b : Bool). cond b (Some (last_queued t)) None) (sym e)
 
   -- ---- the number
 

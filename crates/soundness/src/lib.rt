@@ -40,13 +40,6 @@ use server_check::{UNSOUND, last_queued};
 use table::*;
 use word_checks::header_sound;
 
-// The table is not sound; or it is, and this is the last slot of the queue, 0 if the queue is empty.
-#[derive(Clone, Copy)]
-pub enum Verdict {
-    Unsound,
-    Sound(u32),
-}
-
 // Whether the table is sound.
 pub fn is_sound(t: &[u32]) -> bool
     ensures { result ≡ sound t.now }
@@ -60,25 +53,25 @@ pub fn is_sound(t: &[u32]) -> bool
     plain_check::is_sound(&*t)
 }
 
-// Whether the table is sound and, if it is, the last slot of the queue: for a call that may queue timers behind it.
-pub fn checked(t: &[u32]) -> Verdict
+// The last slot of the queue of a sound table, 0 if the queue is empty; `None` if the table is not sound. For a call that may queue timers behind it.
+pub fn checked(t: &[u32]) -> Option<u32>
     ensures { result ≡ verdict t.now }
 {
     if t.len() < HEADER {
-        return Verdict::Unsound;
+        return None;
     }
     if t[SERVER] == 0 {
         if is_sound(&*t) {
-            return Verdict::Sound(0);
+            return Some(0);
         }
-        return Verdict::Unsound;
+        return None;
     }
     if !header_sound(&*t) {
-        return Verdict::Unsound;
+        return None;
     }
     let last = last_queued(&*t);
     if last == UNSOUND {
-        return Verdict::Unsound;
+        return None;
     }
-    Verdict::Sound(last)
+    Some(last)
 }

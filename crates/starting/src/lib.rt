@@ -11,14 +11,14 @@ ghost use Rattle.model.specs.Outcome.{outcome_of};
 ghost use Rattle.answers.specs.Answers.{status_of, answer_of};
 ghost use Rattle.starting.specs.Starts.{start_outcome};
 
-use answers::Answer;
-use calendar::{Instant, WallTime};
-use links::start;
+use calendar::WallTime;
+use links::Table;
 use model::{Mode, Status};
-use slots::named;
+use slots::Sound;
 use table::{CLOCK_SET, SECONDS};
 
-// A timer waits for so many ticks from now, as the mode says, behind every timer due at the same tick.
+// A timer waits for so many ticks from now, as the mode says, behind every timer due at the same tick. (What is sound here is written below, which no
+// `Sound` lets: so it is a clause, here and in the next.)
 pub fn start_for_ticks(
     table: &mut [u32],
     mode: Mode,
@@ -27,22 +27,22 @@ pub fn start_for_ticks(
     ticks: u32,
     routine: u32,
     user_data: u32,
-) -> Answer
+) -> Result<u32, Status>
     requires { sound table.old ≡ true }
     ensures { outcome_of (status_of result) (answer_of result) table.new [] ≡ start_outcome mode (start_rules (read table.old) party id ticks routine) table.old id ticks routine user_data }
 {
     if ticks == 0 {
-        return Answer::Refused(Status::InvalidNumber);
+        return Err(Status::InvalidNumber);
     }
     if routine == 0 {
-        return Answer::Refused(Status::InvalidAddress);
+        return Err(Status::InvalidAddress);
     }
-    let i = named(table, party, id);
-    if i == 0 {
-        return Answer::Refused(Status::InvalidId);
-    }
-    start(table, mode, i, ticks, routine, user_data);
-    Answer::Done(0)
+    let i = Sound { words: table }
+        .named(party, id)
+        .ok_or(Status::InvalidId)?;
+    let mut timers = Table { words: table };
+    timers.start(mode, i, ticks, routine, user_data);
+    Ok(0)
 }
 
 // A timer waits for a date, as the mode says, behind every timer due at the same date.
@@ -54,26 +54,24 @@ pub fn start_for_date(
     when: WallTime,
     routine: u32,
     user_data: u32,
-) -> Answer
+) -> Result<u32, Status>
     requires { sound table.old ≡ true }
     ensures { outcome_of (status_of result) (answer_of result) table.new [] ≡ start_outcome mode (date_rules (read table.old) party id when routine) table.old id (seconds_of when) routine user_data }
 {
     if table[CLOCK_SET] != 1 {
-        return Answer::Refused(Status::NotDefined);
+        return Err(Status::NotDefined);
     }
     if routine == 0 {
-        return Answer::Refused(Status::InvalidAddress);
+        return Err(Status::InvalidAddress);
     }
-    let Instant::Second(date) = calendar::to_seconds(when) else {
-        return Answer::Refused(Status::InvalidClock);
-    };
+    let date = calendar::to_seconds(when).ok_or(Status::InvalidClock)?;
     if date <= table[SECONDS] {
-        return Answer::Refused(Status::InvalidClock);
+        return Err(Status::InvalidClock);
     }
-    let i = named(table, party, id);
-    if i == 0 {
-        return Answer::Refused(Status::InvalidId);
-    }
-    start(table, mode, i, date, routine, user_data);
-    Answer::Done(0)
+    let i = Sound { words: table }
+        .named(party, id)
+        .ok_or(Status::InvalidId)?;
+    let mut timers = Table { words: table };
+    timers.start(mode, i, date, routine, user_data);
+    Ok(0)
 }

@@ -1,52 +1,28 @@
--- The kind and the words that are stored in the slot that an id names, as reset finds them, and how a timer of a kind was last started.
--- Assumes nothing.
+-- The kind and the words that are stored in the slot that an id names, as reset finds them. Assumes nothing.
 use mathlib.Core.Path.{◌≡◌, refl, sym, ap, ◌∙◌}
-use mathlib.Core.Logic.{◌≢◌}
-use Prim.Native.Nat.{ℕ, ◌≤◌, ◌<◌}
-use mathlib.Core.Bool.{Bool, true, cond}
+use Prim.Native.Nat.{ℕ}
+use mathlib.Core.Bool.{Bool, true, false, cond}
 use mathlib.Core.List.{List}
-use lib.Dec.{leb, ltb, eqb}
-use borrow.Author.Tests.{ne_eqb, lt-ltb, le-ltb, le-leb, lt-leb}
+use Rattle.std.specs.Prelude.{Option, Some, None, is_some, unwrap_or}
 use Rattle.model.specs.declared.Mode.{Mode}
-use Rattle.model.specs.declared.Mode.TheVariants.{After, Every, ServerAfter}
-use Rattle.model.specs.Kinds.{by_ticks, last_by_ticks, mode_or_after, last_mode}
+use Rattle.model.specs.Kinds.{last_by_ticks, last_mode}
 use Rattle.model.specs.Calls.{reset}
 use Rattle.model.specs.State.{Slot, slot_at, index_of}
 use Rattle.model.specs.Directives.{started, effect}
 use Rattle.model.specs.Words.{written_over, read, slot_from, kind_of, interval_of, routine_of, data_of}
-use Rattle.laws.proofs.KindLaws.{on-numbers}
+use Rattle.laws.proofs.ListLaws.{clash}
 use Rattle.laws.proofs.ReadBack.{slot_read}
-use Rattle.table.proofs.KindTests.{timed-is}
 use Rattle.opening.specs.Ids.{Named}
 
--- ---- how it was started
+-- ---- an option that is there where b is true
 
--- the last of the kinds that were started by interval
-pub timed-last : (n : ℕ) → n ≢ 2 → n ≢ 4 → n ≢ 6 → n ≢ 7 → n ≢ 8 → n ≢ 10 → eqb n 12 ≡ last_by_ticks n
-timed-last n a b c d e f =
-    sym (timed-is n ∙ rw (ne_eqb n 2 a, ne_eqb n 4 b, ne_eqb n 6 c, ne_eqb n 7 d, ne_eqb n 8 e, ne_eqb n 10 f))
+pub none-where : {A : Type 0} (b : Bool) (x : A) → None ≡ cond b (Some x) None → false ≡ b
+none-where false x e = refl
+none-where true x e = clash (sym (ap is_some e))
 
-module _ (n : ℕ) (timed : last_by_ticks n ≡ true) where
-  abbrev by_number : ℕ → Mode
-  by_number m = cond (ltb m 6) After (cond (leb m 7) Every ServerAfter)
-
-  mode-by-number : by_number n ≡ last_mode n
-  mode-by-number =
-      ap (λ (b : Bool). cond b (by_number n) (last_mode n)) (sym timed)
-      ∙ on-numbers (λ m x. cond (by_ticks x.last) (by_number m) (mode_or_after x.last)) (λ _ x. mode_or_after x.last) refl (λ m _. refl) n
-
-  pub as-after : n < 6 → After ≡ last_mode n
-  as-after p = ap (λ (b : Bool). cond b After (cond (leb n 7) Every ServerAfter)) (sym (lt-ltb n 6 p)) ∙ mode-by-number
-
-  module _ (p : 6 ≤ n) where
-    past_after : cond (leb n 7) Every ServerAfter ≡ last_mode n
-    past_after = ap (λ (b : Bool). cond b After (cond (leb n 7) Every ServerAfter)) (sym (le-ltb n 6 p)) ∙ mode-by-number
-
-    pub as-every : n ≤ 7 → Every ≡ last_mode n
-    as-every q = ap (λ (b : Bool). cond b Every ServerAfter) (sym (le-leb n 7 q)) ∙ past_after
-
-    pub as-server : 7 < n → ServerAfter ≡ last_mode n
-    as-server q = ap (λ (b : Bool). cond b Every ServerAfter) (sym (lt-leb n 7 q)) ∙ past_after
+pub some-where : {A : Type 0} (b : Bool) (x y : A) → Some y ≡ cond b (Some x) None → (true ≡ b) × (y ≡ x)
+some-where {A = A} true x y e = (refl, ap (λ (o : Option A). unwrap_or o y) e)
+some-where false x y e = clash (ap is_some e)
 
 -- ---- the slot
 

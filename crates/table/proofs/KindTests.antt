@@ -8,7 +8,7 @@ use lib.ListN.{get_or-eq_default}
 use lib.Dec.{ltb, eqb}
 use borrow.Author.Tests.{ltb-true, ltb-false, ne_eqb}
 use Rattle.model.specs.declared.Chain.TheVariants.{ByTicks, ByDate, Queue}
-use Rattle.model.specs.Kinds.{Kind, kind_entry, kinds, kind_at, is_in, waits_in, linked, by_ticks, last_by_ticks}
+use Rattle.model.specs.Kinds.{Kind, kind_entry, kinds, kind_at, is_in, waits_in, linked}
 use Rattle.laws.proofs.ListLaws.{cases}
 use Rattle.laws.proofs.KindLaws.{read_all, on-kinds}
 
@@ -40,19 +40,6 @@ queued-is =
     number (λ x. is_in Queue x.chain) (λ n. eqb n 12 || eqb n 13) refl
     (λ n p. sym (rw (past n 12 p (omega arith), past n 13 p (omega arith))))
 
-pub timed-is : (n : ℕ) → last_by_ticks n ≡ (eqb n 2 || eqb n 4 || eqb n 6 || eqb n 7 || eqb n 8 || eqb n 10 || eqb n 12)
-timed-is =
-    number (λ x. by_ticks x.last) (λ n. eqb n 2 || eqb n 4 || eqb n 6 || eqb n 7 || eqb n 8 || eqb n 10 || eqb n 12) refl
-    (λ n p. sym (rw (
-      past n 2 p (omega arith),
-      past n 4 p (omega arith),
-      past n 6 p (omega arith),
-      past n 7 p (omega arith),
-      past n 8 p (omega arith),
-      past n 10 p (omega arith),
-      past n 12 p (omega arith),
-    )))
-
 -- ---- what the chains say of a kind
 
 -- a free timer, or one that was never started, is in no chain
@@ -60,3 +47,7 @@ pub new_apart : (n : ℕ) → n ≤ 1 → linked n ≡ false
 new_apart zero p = refl
 new_apart (suc zero) p = refl
 new_apart (suc (suc n)) p = absurd (omega arith)
+
+-- a word past the kinds is in no chain, and stays
+pub unknown-is : (n : ℕ) → 13 < n → kind_at n ≡ kind_entry none n n none
+unknown-is n p = get_or-eq_default kinds (kind_entry none n n none) {n = n} p

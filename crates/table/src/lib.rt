@@ -20,8 +20,11 @@
 ghost use Rattle.std.specs.Prelude.{◌≡◌, [], ◌∷◌, ◌+◌, ◌*◌, ◌<◌, ◌≤◌, length, set, leb};
 ghost use Rattle.calendar.specs.Calendar.{all_of};
 ghost use Rattle.model.specs.declared.Chain.TheVariants.{ByTicks};
-ghost use Rattle.model.specs.Kinds.{waits_in};
-ghost use Rattle.model.specs.Words.{field, seconds};
+ghost use Rattle.model.specs.Kinds.{kind_at, waits_in};
+ghost use Rattle.model.specs.Words.{field};
+ghost use Rattle.table.specs.Kinds.{word_of, Decodes, option_of};
+
+use model::Chain;
 
 // The words of the header.
 pub const SLOT_COUNT: usize = 0;
@@ -74,72 +77,129 @@ pub const MOST_SLOTS: u32 = 255;
 
 pub const MOST_RATE: u32 = 1000;
 
-// The split of a table that one party has alone, and the numbers of the parties.
+// The split of a table that one party has alone, and the numbers of the parties. (No enum: a call takes any number, and answers 4 for one that is
+// no party.)
 pub const ONE_PARTY: u32 = 0;
 
 pub const PARTY_1: u32 = 1;
 
 pub const PARTY_2: u32 = 2;
 
-// The kinds.
-pub const FREE: u32 = 0;
+// What a timer does, and how it was last started. A kind stands in a table as its number: `as` gives that of a kind that is named in place. (A function
+// takes a kind as a word where every word may be given, as `waits_for_ticks` and links's `stopped_kind` and `store`; or where its contract speaks of
+// the word that its caller has read, as links's `stop_first`, going_on's `queue` and firing's `come_off`.)
+#[derive(Clone, Copy, Debug, PartialEq, Eq)]
+pub enum Kind {
+    Free = 0,
+    NeverStarted = 1,
+    IdleTicks = 2,
+    IdleDate = 3,
+    WaitingTicks = 4,
+    WaitingDate = 5,
+    WaitingEvery = 6,
+    IdleEvery = 7,
+    ServerIdleTicks = 8,
+    ServerIdleDate = 9,
+    ServerWaitingTicks = 10,
+    ServerWaitingDate = 11,
+    QueuedTicks = 12,
+    QueuedDate = 13,
+}
 
-pub const NEVER_STARTED: u32 = 1;
+// A word that is the number of no kind.
+#[derive(Clone, Copy, Debug, PartialEq, Eq)]
+pub struct UnknownKind;
 
-pub const IDLE_TICKS: u32 = 2;
+impl From<Kind> for u32 {
+    ghost from_gives = { λ kind word. word ≡ word_of kind };
 
-pub const IDLE_DATE: u32 = 3;
+    fn from(kind: Kind) -> u32 {
+        kind as u32
+    }
+}
 
-pub const WAITING_TICKS: u32 = 4;
+impl TryFrom<u32> for Kind {
+    type Error = UnknownKind;
 
-pub const WAITING_DATE: u32 = 5;
+    ghost try_from_gives = { Decodes };
 
-pub const WAITING_EVERY: u32 = 6;
+    fn try_from(word: u32) -> Result<Kind, UnknownKind> {
+        match word {
+            0 => Ok(Kind::Free),
+            1 => Ok(Kind::NeverStarted),
+            2 => Ok(Kind::IdleTicks),
+            3 => Ok(Kind::IdleDate),
+            4 => Ok(Kind::WaitingTicks),
+            5 => Ok(Kind::WaitingDate),
+            6 => Ok(Kind::WaitingEvery),
+            7 => Ok(Kind::IdleEvery),
+            8 => Ok(Kind::ServerIdleTicks),
+            9 => Ok(Kind::ServerIdleDate),
+            10 => Ok(Kind::ServerWaitingTicks),
+            11 => Ok(Kind::ServerWaitingDate),
+            12 => Ok(Kind::QueuedTicks),
+            13 => Ok(Kind::QueuedDate),
+            _ => Err(UnknownKind),
+        }
+    }
+}
 
-pub const IDLE_EVERY: u32 = 7;
+impl Kind {
+    // The kind of a timer that stops; one that is in no chain keeps its own. (Each by name: with `_ => self` it becomes a table of jumps.)
+    pub fn stopped(self) -> Kind
+        ensures { word_of result ≡ (kind_at (word_of self)).when_stopped }
+    {
+        match self {
+            Kind::Free => Kind::Free,
+            Kind::NeverStarted => Kind::NeverStarted,
+            Kind::IdleTicks | Kind::WaitingTicks => Kind::IdleTicks,
+            Kind::IdleDate | Kind::WaitingDate => Kind::IdleDate,
+            Kind::IdleEvery | Kind::WaitingEvery => Kind::IdleEvery,
+            Kind::ServerIdleTicks | Kind::ServerWaitingTicks | Kind::QueuedTicks => {
+                Kind::ServerIdleTicks
+            }
+            Kind::ServerIdleDate | Kind::ServerWaitingDate | Kind::QueuedDate => {
+                Kind::ServerIdleDate
+            }
+        }
+    }
 
-pub const SERVER_IDLE_TICKS: u32 = 8;
-
-pub const SERVER_IDLE_DATE: u32 = 9;
-
-pub const SERVER_WAITING_TICKS: u32 = 10;
-
-pub const SERVER_WAITING_DATE: u32 = 11;
-
-pub const QUEUED_TICKS: u32 = 12;
-
-pub const QUEUED_DATE: u32 = 13;
+    // The chain in which a timer of the kind stands, if it is in one.
+    pub fn chain(self) -> Option<Chain>
+        ensures { option_of result ≡ (kind_at (word_of self)).chain }
+    {
+        let chain = match self {
+            Kind::WaitingTicks | Kind::WaitingEvery | Kind::ServerWaitingTicks => Chain::ByTicks,
+            Kind::WaitingDate | Kind::ServerWaitingDate => Chain::ByDate,
+            Kind::QueuedTicks | Kind::QueuedDate => Chain::Queue,
+            _ => return None,
+        };
+        Some(chain)
+    }
+}
 
 // So many slots and so many ticks in a second are within their limits.
 pub fn within_limits(slots: u32, rate: u32) -> bool
     ensures { result ≡ all_of (leb 1 slots ∷ leb slots 255 ∷ leb 1 rate ∷ leb rate 1000 ∷ []) }
 {
-    if slots < 1 {
-        return false;
-    }
-    if MOST_SLOTS < slots {
-        return false;
-    }
-    if rate < 1 {
-        return false;
-    }
-    rate <= MOST_RATE
+    (1..=MOST_SLOTS).contains(&slots) && (1..=MOST_RATE).contains(&rate)
 }
 
-// A timer of this kind waits in the interval chain.
+const WAITING_TICKS: u32 = Kind::WaitingTicks as u32;
+
+const WAITING_EVERY: u32 = Kind::WaitingEvery as u32;
+
+const SERVER_WAITING_TICKS: u32 = Kind::ServerWaitingTicks as u32;
+
+// A timer of this kind waits in the interval chain. Every word is answered. (By `Kind::try_from` the soundness check of a table with a server takes
+// 2.5 % more instructions.)
 pub fn waits_for_ticks(kind: u32) -> bool
     ensures { result ≡ waits_in ByTicks kind }
 {
-    if kind == WAITING_TICKS {
-        return true;
-    }
-    if kind == WAITING_EVERY {
-        return true;
-    }
-    kind == SERVER_WAITING_TICKS
+    matches!(kind, WAITING_TICKS | WAITING_EVERY | SERVER_WAITING_TICKS)
 }
 
-// Word f of slot i.
+// Word f of slot i. (An index is made by `as`, in every crate: no `From` goes from `u32` to `usize`.)
 pub fn get(t: &[u32], i: u32, f: usize) -> u32
     requires { (f < 8) × (8 * i + 10 ≤ length t.now) }
     ensures { result ≡ field t.now i f }

@@ -5,6 +5,7 @@ use native.Mathlib.Omega.{arith}
 use mathlib.Core.Bool.{true}
 use mathlib.Core.List.{List, ◌∷◌, ◌++◌}
 use lib.ListN.{set, drop, replicate, length-replicate}
+use Rattle.std.specs.Prelude.{Option, Some}
 use Rattle.model.specs.declared.Chain.TheVariants.{ByTicks}
 use Rattle.model.specs.State.{Slot, State, with_chain, free, slot_at}
 use Rattle.model.specs.Directives.{laid_out, lowest_free, stored, never_started, stopped, idled}
@@ -15,27 +16,30 @@ use Rattle.laws.proofs.Searches.{lowest-free}
 use Rattle.laws.proofs.ReadBack.{slots_length, over-over}
 use Rattle.laws.proofs.SoundHolds.{sound-holds}
 use Rattle.laws.proofs.Steps.{length-stored}
+use Rattle.slots.specs.Search.{some_slot}
+use Rattle.slots.proofs.Laws.{is_slot}
 use Rattle.links.specs.Places.{InTable}
 use Rattle.links.proofs.NextState.{next-read}
-use Rattle.links.proofs.Restart.{stopped_at, stop-next, idle-now}
+use Rattle.links.proofs.Restart.{stopped_at, stop-next, still-in}
 
 -- ---- create
 
-module _ (t : List ℕ) (ok : sound t ≡ true) (party : ℕ) {i : ℕ} (is : lowest_free (read t) party ≡ i) where
-  pub free-in-table : (i ≡ 0 → ⊥) → InTable t i
-  free-in-table some =
-      let f = lowest-free (read t) party (omega (arith, is, some)) in
-      record { holds = sound-holds t ok; low = omega (arith, some); high = omega (arith, f.high, slots_length t, is) }
+module _ (t : List ℕ) (ok : sound t ≡ true) (party : ℕ) {r : Option ℕ} {i : ℕ} (answer : r ≡ some_slot (lowest_free (read t) party)) (found-at : r ≡ Some i) where
+  pub free-in-table : InTable t i
+  free-in-table =
+      let at = is_slot answer found-at in
+      let f = lowest-free (read t) party (omega (arith, at.0, at.1)) in
+      record { holds = sound-holds t ok; low = omega (arith, at.1); high = omega (arith, f.high, slots_length t, at.0) }
 
   pub created-is : {u : List ℕ} (name : ℕ) → u ≡ written_over (stored (read t) i (never_started name)) t
       → u ≡ written_over (stored (read t) (lowest_free (read t) party) (never_started name)) t
-  created-is name h = h ∙ ap (λ (k : ℕ). written_over (stored (read t) k (never_started name)) t) (sym is)
+  created-is name h = h ∙ ap (λ (k : ℕ). written_over (stored (read t) k (never_started name)) t) (is_slot answer found-at).0
 
 -- ---- delete: u is the table after the stop
 
 module _ {t : List ℕ} {i : ℕ} (at : InTable t i) {u : List ℕ} (e : u ≡ written_over (stopped_at t i) t) where
   pub still-in-table : InTable u i
-  still-in-table = (idle-now t i at u e).in_table
+  still-in-table = still-in t i at u e
 
   pub deleted-is : {v : List ℕ} → v ≡ written_over (stored (read u) i free) u → v ≡ written_over (stopped (read t) i free) t
   deleted-is h =

@@ -29,7 +29,7 @@ use Rattle.walks.proofs.StepTests.{in-ticks, in-queue}
 use Rattle.walks.proofs.CountsAddUp.{times}
 use Rattle.walks.proofs.NoSlotTwice.{along-first}
 use Rattle.walks.proofs.WalkDecidesChain.{waits_sound, walk, walked, met-once}
-use Rattle.walks.proofs.UntestedFollows.{Slots, Queued, queued, queue-walk, Ticking, Apart, Dated, kinds, within, ticks-whole, ticks-tested, dates-whole, dates-tested, interval-low, stands-behind}
+use Rattle.walks.proofs.UntestedFollows.{Slots, Queued, queued, queue-walk, Apart, Dated, kinds, within, ticks-whole, ticks-tested, dates-whole, dates-tested, interval-low, stands-behind}
 
 -- ---- the whole
 

@@ -1,16 +1,14 @@
 -- A step's tests, of the link and of the wait: what they say where they pass. Assumes nothing.
 use Prim.Native.Nat.{ℕ, ◌+◌, ◌≤◌}
-use mathlib.Core.Path.{◌≡◌, sym, ap, ◌∙◌}
-use mathlib.Core.Bool.{Bool, true, false, ◌&&◌, and-true}
+use mathlib.Core.Path.{◌≡◌}
+use mathlib.Core.Bool.{Bool, true}
 use mathlib.Core.List.{List}
 use lib.Dec.{leb, eqb}
 use borrow.Author.Tests.{eqb-true, eq-eqb, le-leb, leb-true}
-use Rattle.model.specs.declared.Chain.{Chain}
 use Rattle.model.specs.declared.Chain.TheVariants.{ByTicks, ByDate, Queue}
 use Rattle.model.specs.Kinds.{waits_in}
 use Rattle.model.specs.Words.{kind_of, interval_of, wait_of, previous_of}
-use Rattle.laws.proofs.ListLaws.{clash, both, and_both, all-at, all_true}
-use Rattle.word_checks.proofs.BooleanTests.{never}
+use Rattle.laws.proofs.ListLaws.{both, and_both, all-at, all_true}
 use Rattle.walks.specs.Walks.{Stand, link_tests, link_tested, wait_tested, step_tested}
 
 pub record InLink (t : List ℕ) (n i p : ℕ) : Type 0 where
@@ -29,21 +27,9 @@ module _ (t : List ℕ) (n i p : ℕ) where
   unfolding link_tested
   link-in h = all_true (link_tests t n i p) (le-leb 1 i h.low, (le-leb i n h.high, (eq-eqb (previous_of t i) p h.previous, tt)))
 
-  pub no-link : (InLink t n i p → ⊥) → false ≡ link_tested t n i p
-  no-link f = never (link_tested t n i p) (λ e. f (in-link e))
-
-  -- there is such a slot: its previous decides
-  pub link-rest : 1 ≤ i → i ≤ n → eqb (previous_of t i) p ≡ link_tested t n i p
-  unfolding link_tested
-  link-rest a b = rw (le-leb 1 i a, le-leb i n b) (sym (and-true (eqb (previous_of t i) p)))
-
 module _ (t : List ℕ) (n : ℕ) (x : Stand) where
   abbrev link : Bool
   link = link_tested t n x.slot x.before
-
-  pub link-false : (k : Chain) → link ≡ false → false ≡ step_tested k t n x
-  unfolding step_tested
-  link-false k e = sym (ap (λ (b : Bool). b && wait_tested k t x.slot x.reached) e)
 
   -- ---- along the interval chain
 
@@ -66,14 +52,6 @@ module _ (t : List ℕ) (n : ℕ) (x : Stand) where
         high = leb-true left (interval_of t x.slot) b.1;
       }
 
-  pub no-ticks : (InTicks → ⊥) → false ≡ step_tested ByTicks t n x
-  no-ticks f = never (step_tested ByTicks t n x) (λ e. f (in-ticks e))
-
-  -- the link is right and ticks are left: whether they are too many decides
-  pub ticks-rest : link ≡ true → 1 ≤ left → leb left (interval_of t x.slot) ≡ step_tested ByTicks t n x
-  unfolding step_tested
-  ticks-rest e h = rw (e, le-leb 1 left h)
-
   -- ---- along the dated chain
 
   pub record InDates : Type 0 where
@@ -92,11 +70,6 @@ module _ (t : List ℕ) (n : ℕ) (x : Stand) where
       and_both link (wait_tested ByDate t x.slot x.reached) (link-in t n x.slot x.before h.link)
       (le-leb x.reached (wait_of t x.slot) h.low)
 
-  -- the link is right: the date decides
-  pub dates-rest : link ≡ true → leb x.reached (wait_of t x.slot) ≡ step_tested ByDate t n x
-  unfolding step_tested
-  dates-rest e = rw e
-
   -- ---- along the queue
 
   pub record InQueue : Type 0 where
@@ -113,11 +86,3 @@ module _ (t : List ℕ) (n : ℕ) (x : Stand) where
       let a = both link (wait_tested Queue t x.slot x.reached) e in
       let b = both queued (eqb (wait_of t x.slot) 0) a.1 in
       record { link = in-link t n x.slot x.before a.0; kind = b.0; none = eqb-true (wait_of t x.slot) 0 b.1 }
-
-  pub kind-false : queued ≡ false → false ≡ step_tested Queue t n x
-  kind-false e = never (step_tested Queue t n x) (λ s. clash (sym (in-queue s).kind ∙ e))
-
-  -- link and kind are right: the wait decides
-  pub queue-rest : link ≡ true → queued ≡ true → eqb (wait_of t x.slot) 0 ≡ step_tested Queue t n x
-  unfolding step_tested
-  queue-rest e k = rw (e, k)

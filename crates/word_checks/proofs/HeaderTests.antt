@@ -1,16 +1,14 @@
 -- The header's tests: what they say where they pass, and what is left of them where most have passed. Assumes nothing.
 use Prim.Native.Nat.{ℕ, ◌+◌, ◌*◌, ◌≤◌, ◌<◌}
-use mathlib.Core.Path.{◌≡◌, sym, ◌∙◌}
-use mathlib.Core.Bool.{true, false, ◌||◌, and-true}
+use mathlib.Core.Path.{◌≡◌}
+use mathlib.Core.Bool.{true, false}
 use mathlib.Core.List.{List}
 use lib.ListN.{length}
-use lib.Dec.{eqb}
-use borrow.Author.Tests.{eq-eqb, ne_eqb, lt-ltb, le-leb, leb-true, ltb-true}
+use borrow.Author.Tests.{leb-true, ltb-true}
 use Rattle.calendar.specs.Calendar.{last_second}
 use Rattle.laws.proofs.ListLaws.{all-at}
-use Rattle.model.specs.Words.{slot_count, ticks_per_second, clock_set, seconds, ticks_into, first_dated, party_split, server_initiated}
+use Rattle.model.specs.Words.{slot_count, ticks_per_second, clock_set, seconds, ticks_into, party_split, server_initiated}
 use Rattle.model.specs.Sound.{header_tests, header_sound}
-use Rattle.word_checks.specs.Tested.{all_zero}
 use Rattle.word_checks.proofs.BooleanTests.{never}
 
 -- what all of them say but the last
@@ -42,27 +40,3 @@ module _ (t : List ℕ) where
 
   pub out_of_range : (Ranges t → ⊥) → false ≡ header_sound t
   out_of_range f = never (header_sound t) (λ e. f (header-ranges e))
-
-  -- the rest is right: the words of a clock that is not set decide
-  header-rest : Ranges t → header_sound t ≡ (eqb (clock_set t) 1 || all_zero (seconds t) (ticks_into t) (first_dated t))
-  unfolding header_sound
-  header-rest r =
-      rw (
-        le-leb 1 (slot_count t) r.slots.0,
-        le-leb (slot_count t) 255 r.slots.1,
-        le-leb (10 + 8 * slot_count t) (length t) r.long,
-        le-leb 1 (ticks_per_second t) r.per_second.0,
-        le-leb (ticks_per_second t) 1000 r.per_second.1,
-        le-leb (clock_set t) 1 r.flag,
-        le-leb (seconds t) last_second r.second,
-        lt-ltb (ticks_into t) (ticks_per_second t) r.ticks,
-        lt-ltb (party_split t) (slot_count t) r.split,
-        le-leb (server_initiated t) 1 r.server,
-      )
-      (and-true (eqb (clock_set t) 1 || all_zero (seconds t) (ticks_into t) (first_dated t)))
-
-  pub clock-set : Ranges t → clock_set t ≡ 1 → true ≡ header_sound t
-  clock-set r e = sym (header-rest r ∙ rw (eq-eqb (clock_set t) 1 e))
-
-  pub clock-not-set : Ranges t → (clock_set t ≡ 1 → ⊥) → all_zero (seconds t) (ticks_into t) (first_dated t) ≡ header_sound t
-  clock-not-set r e = sym (header-rest r ∙ rw (ne_eqb (clock_set t) 1 e))

@@ -8,6 +8,22 @@ ghost use Rattle.word_checks.specs.Tested.{all_zero, new_tested, idle_tested, sl
 use calendar::LAST_SECOND;
 use table::*;
 
+// The kinds that are told apart here, as words: a word that is checked may be no kind, and one test of them by `Kind::try_from` makes the check of a
+// table with a server 2.5 % slower.
+const FREE: u32 = Kind::Free as u32;
+
+const NEVER_STARTED: u32 = Kind::NeverStarted as u32;
+
+const IDLE_DATE: u32 = Kind::IdleDate as u32;
+
+const WAITING_TICKS: u32 = Kind::WaitingTicks as u32;
+
+const WAITING_DATE: u32 = Kind::WaitingDate as u32;
+
+const WAITING_EVERY: u32 = Kind::WaitingEvery as u32;
+
+const IDLE_EVERY: u32 = Kind::IdleEvery as u32;
+
 // All three are zero: one test for three words.
 fn all_zero(a: u32, b: u32, c: u32) -> bool
     ensures { result ≡ all_zero a b c }
@@ -23,6 +39,7 @@ fn all_seven_zero(x: u32, a: u32, b: u32, c: u32, d: u32, e: u32, f: u32) -> boo
 }
 
 // The header, and the slice is as long as the header says.
+#[tactic(auto, unfolding(model::specs::Sound::header_sound))]
 pub fn header_sound(t: &[u32]) -> bool
     ensures { result ≡ header_sound t.now }
 {
@@ -31,42 +48,22 @@ pub fn header_sound(t: &[u32]) -> bool
     }
     let n = t[SLOT_COUNT];
     let per_second = t[TICKS_PER_SECOND];
-    if n < 1 {
-        return false;
-    }
-    if MOST_SLOTS < n {
-        return false;
-    }
-    if t.len() < HEADER + SLOT * (n as usize) {
-        return false;
-    }
-    if per_second < 1 {
-        return false;
-    }
-    if MOST_RATE < per_second {
-        return false;
-    }
-    if 1 < t[CLOCK_SET] {
-        return false;
-    }
-    if LAST_SECOND < t[SECONDS] {
-        return false;
-    }
-    if per_second <= t[TICKS] {
-        return false;
-    }
-    if n <= t[PARTY_SPLIT] {
-        return false;
-    }
-    if 1 < t[SERVER] {
-        return false;
-    }
-    if t[CLOCK_SET] == 1 {
-        return true;
-    }
-    all_zero(t[SECONDS], t[TICKS], t[FIRST_DATED])
+    1 <= n
+        && n <= MOST_SLOTS
+        && HEADER + SLOT * (n as usize) <= t.len()
+        && 1 <= per_second
+        && per_second <= MOST_RATE
+        && t[CLOCK_SET] <= 1
+        && t[SECONDS] <= LAST_SECOND
+        && t[TICKS] < per_second
+        && t[PARTY_SPLIT] < n
+        && t[SERVER] <= 1
+        && (t[CLOCK_SET] == 1 || all_zero(t[SECONDS], t[TICKS], t[FIRST_DATED]))
 }
 
+// Here and in the crates above, the words of slot i are in the slice. (A type for such a slot would be made anew at each slot of the pass, and its one
+// field would say no more than this clause.)
+//
 // Wait, next and previous of slot i are zero.
 pub fn is_unlinked(t: &[u32], i: u32) -> bool
     requires { 8 * i + 10 ≤ length t.now }
@@ -121,7 +118,8 @@ fn idle_tested(t: &[u32], i: u32, dated: bool) -> bool
 }
 
 // The words of slot i, by its kind, 0 to 7: server timers are not taken. The wait and the links of a waiting slot are left to the walks, and so is
-// the interval of one that waits for ticks. Periodic kinds come last, so that they cost the others nothing.
+// the interval of one that waits for ticks. Periodic kinds come last, so that they cost the others nothing. (The order is the
+// pass's speed, and a `match` over these ranges would have the same arms.)
 pub fn slot_tested(t: &[u32], i: u32) -> bool
     requires { 8 * i + 10 ≤ length t.now }
     ensures { result ≡ slot_tested false t.now i }

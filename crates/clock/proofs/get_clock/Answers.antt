@@ -33,10 +33,10 @@ returns-then-table-ne1 c = let b = (goal.at.returns-then-table-ne1 c).Else-not-i
 pub bounds-table-3 : goal.bounds-table-3
 bounds-table-3 c = let h = sound-header _ (sure (goal.at.bounds-table-3 c).Else-not-is_sound).ok in omega arith
 
-pub returns-in_default : goal.returns-in_default
-returns-in_default c =
-    let b = (goal.at.returns-in_default c).Else-not-is_sound in
-    absurd (in-calendar (t b) (sure b).ok c.from_seconds.ensures c.in_default.is)
+pub returns-in_err-date : goal.returns-in_err-date
+returns-in_err-date c =
+    let b = (goal.at.returns-in_err-date c).Else-not-is_sound in
+    absurd (in-calendar (t b) (sure b).ok c.from_seconds.ensures c.in_err-date.ensures.ok_part)
 
 pub bounds-table-4 : goal.bounds-table-4
 bounds-table-4 c = let h = sound-header _ (sure (goal.at.bounds-table-4 c).Else-not-is_sound).ok in omega arith
@@ -45,4 +45,4 @@ pub returns : goal.returns
 returns c =
     let b = (goal.at.returns c).Else-not-is_sound in
     done _ _ _ _ [] ((sure b).rule, (clock-running (t b) c.if-table-ne1.false, tt))
-    (time-now (t b) c.from_seconds.ensures c.in-On.is) (same-table _ (sure b).ok) refl
+    (time-now (t b) c.from_seconds.ensures c.in_ok-date.ensures.ok_part) (same-table _ (sure b).ok) refl

@@ -1,10 +1,10 @@
--- `delay::seconds_to_ticks` meets its contract: what is not a number differs from itself, and any other is the number of its bits. Assumes nothing.
+-- `delay::seconds_to_ticks` meets its contract: what is not a number is refused, and any other is the number of its bits. Assumes nothing.
 use mathlib.Core.Path.{sym, ap, ◌∙◌, subst}
 use lib.Dec.{T}
 use lib.Ieee.{Float, binary64}
 use lib.Ieee.Bits.{of_bits-to_bits}
 use Rattle.delay.specs.Seconds.{refused, conversion_of, ticks_of_value}
-use Rattle.delay.proofs.Conversions.{rate-low, rate-within, rate-high, no_number, number}
+use Rattle.delay.proofs.Conversions.{rate-low, rate-within, rate-high, no_number}
 use Rattle.delay.proofs.Exactness.{exactly}
 use Rattle.delay.proofs.seconds_to_ticks.Goals as goal
 
@@ -18,13 +18,10 @@ returns-then-rate-gt-MOST_RATE c =
     let e = exactly _ _ refused (rate-high _ _ c.if-rate-lt1.false c.if-rate-gt-MOST_RATE.true) in
     record { outcome = e.0; exact = e.1 }
 
-pub returns-then-seconds : goal.returns-then-seconds
-returns-then-seconds c =
-    let e = exactly _ _ refused (no_number _ _ c.if-seconds.true ∙ rate-within _ _ c.if-rate-lt1.false c.if-rate-gt-MOST_RATE.false) in
+pub returns-then-is_nan : goal.returns-then-is_nan
+returns-then-is_nan c =
+    let e = exactly _ _ refused (no_number _ _ (sym c.if-is_nan.ensures.value) ∙ rate-within _ _ c.if-rate-lt1.false c.if-rate-gt-MOST_RATE.false) in
     record { outcome = e.0; exact = e.1 }
-
-pub float_to_bits-seconds : goal.float_to_bits-seconds
-float_to_bits-seconds c = number _ c.if-seconds.false
 
 pub returns : goal.returns
 returns c =

@@ -28,10 +28,11 @@ pub returns-then-ticks-gt-MOST_TICKS : goal.returns-then-ticks-gt-MOST_TICKS
 returns-then-ticks-gt-MOST_TICKS c =
     let a = c.args in
     is-too-many a.negative a.digits a.scale a.rate 1074 c.if-digits-eq0.false c.if-negative.false
-    c.requires.2 (1074 - a.scale) (omega arith) c.if-ticks-gt-MOST_TICKS.true
+    c.requires.2 (1074 - a.scale) (omega arith) (rw c.from.ensures at c.if-ticks-gt-MOST_TICKS.true)
 
 pub returns : goal.returns
 returns c =
     let a = c.args in
-    is_some a.negative a.digits a.scale a.rate 1074 c.if-digits-eq0.false c.if-negative.false
-    c.requires.2 (1074 - a.scale) (omega arith) c.if-ticks-gt-MOST_TICKS.false
+    rw c.from.ensures
+    (is_some a.negative a.digits a.scale a.rate 1074 c.if-digits-eq0.false c.if-negative.false
+    c.requires.2 (1074 - a.scale) (omega arith) (rw c.from.ensures at c.if-ticks-gt-MOST_TICKS.false))

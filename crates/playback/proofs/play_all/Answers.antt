@@ -1,12 +1,13 @@
 -- `playback::play_all` meets its contract: the calls before place k had the statuses expected, so that what is left to play from there on is all.
 -- Assumes nothing.
 use Prim.Native.Nat.{ℕ, ◌+◌, ◌*◌, ◌<◌}
-use lib.ListN.{length, get_or}
+use lib.ListN.{length, get_or, take, length-drop}
 use mathlib.Core.List.{List}
-use mathlib.Core.Path.{◌≡◌, refl, sym, ap, ◌∙◌}
+use mathlib.Core.Path.{◌≡◌, sym, ap, ◌∙◌}
 use native.Mathlib.Omega.{arith}
 use Rattle.playback.proofs.Places.{eleven, left-none, differs, goes_on, first_word}
 use Rattle.recorded_timer.specs.RecordedCalls.{step_of, step}
+use Rattle.recording.proofs.ByteWords.{words-from, words-length}
 use Rattle.recording.proofs.TakenFacts.{Held, held}
 use Rattle.recording.specs.Format.{within, words_of}
 use Rattle.playback.proofs.play_all.Goals as goal
@@ -40,71 +41,42 @@ played d =
     let play = d.play-status in
     let l = d.loop-k in
     record {
-      stepped = play.ensures ∙ ap (step l.table l.list) d.call_at-call.ensures;
+      stepped = play.ensures ∙ ap (step l.table l.list) (d.first_call-call.ensures ∙ ap (take 11) (words-from (4 + 11 * l.k) d.args.bytes.now));
       expected = d.word_at-expected.ensures ∙ ap (λ (n : ℕ). get_or (words-After-word_at-expected d) (5 + 11 * n + l.k) 0) d.requires.1;
     }
 
--- the slices keep their lengths
-record Kept (t₀ t l₀ l : List ℕ) : Type 0 where
-  table-long : length t ≡ length t₀
-  list-long : length l ≡ length l₀
-
-kept : (d : After-word_at-expected) →
-    let play = d.play-status in
-    let a = d.args in
-    Kept a.table.now play.new.table a.list.now play.new.list
-kept d =
-    let play = d.play-status in
-    let l = d.loop-k in
-    record { table-long = play.auto.table ∙ l.invariant.1; list-long = play.auto.list ∙ l.invariant.2 }
-
 -- ---- the needs
 
-pub loop-k-init : goal.loop-k-init
-loop-k-init c = (omega arith, refl, refl, refl)
+pub slice_bounds-first_call-count : goal.slice_bounds-first_call-count
+slice_bounds-first_call-count c = omega (arith, (sure c).long, inside c, words-length c.args.bytes.now)
 
-pub call_at-call-requires : goal.call_at-call-requires
-call_at-call-requires c = let h = sure (goal.at.call_at-call-requires c).In-loop-k in
-    let i = inside (goal.at.call_at-call-requires c).In-loop-k in
-    (omega (arith, h.few, i), omega (arith, h.long, i))
+pub slice_bounds-first_call-start : goal.slice_bounds-first_call-start
+slice_bounds-first_call-start c = omega (arith, (sure c).long, inside c, words-length c.args.bytes.now)
+
+pub first_call-call-requires : goal.first_call-call-requires
+first_call-call-requires c = let d = (goal.at.first_call-call-requires c).In-loop-k in
+    let i = inside d in
+    let at = 4 + 11 * c.loop-k.k in
+    let l = ap length (words-from at d.args.bytes.now) ∙ length-drop at (words d) in
+    omega (arith, (sure d).long)
 
 pub play-status-requires : goal.play-status-requires
 play-status-requires c = let d = (goal.at.play-status-requires c).In-loop-k in
     let k = c.loop-k.k in
-    ap (λ (w : List ℕ). within 2 19 (get_or w 0 0)) c.call_at-call.ensures ∙ ap (within 2 19) (first_word (words d) k) ∙ (sure d).number k (inside d)
-
-pub shape_of-table-then-status-expected : goal.shape_of-table-then-status-expected
-shape_of-table-then-status-expected c = (kept (goal.at.shape_of-table-then-status-expected c).After-word_at-expected).table-long
-
-pub shape_of-list-then-status-expected : goal.shape_of-list-then-status-expected
-shape_of-list-then-status-expected c = (kept (goal.at.shape_of-list-then-status-expected c).After-word_at-expected).list-long
+    ap (λ (w : List ℕ). within 2 19 (get_or w 0 0)) (c.first_call-call.ensures ∙ ap (take 11) (words-from (4 + 11 * k) d.args.bytes.now)) ∙ ap (within 2 19) (first_word (words d) k) ∙ (sure d).number k (inside d)
 
 pub returns-then-status-expected : goal.returns-then-status-expected
 returns-then-status-expected c = let b = (goal.at.returns-then-status-expected c).In-loop-k in
     let l = c.loop-k in
     let p = played (goal.at.returns-then-status-expected c).After-word_at-expected in
-    differs (words b) l.k l.table l.list (sure b) (inside b) _ _ _ p.stepped (λ e. c.if-status-expected.true (e ∙ sym p.expected)) ∙ sym l.invariant.3
-
-pub overflow_add-k-in-loop-k : goal.overflow_add-k-in-loop-k
-overflow_add-k-in-loop-k c = omega (arith, c.ranges)
+    differs (words b) l.k l.table l.list (sure b) (inside b) _ _ _ p.stepped (λ e. c.if-status-expected.true (e ∙ sym p.expected)) ∙ sym l.invariant
 
 pub loop-k-preserved : goal.loop-k-preserved
 loop-k-preserved c = let b = (goal.at.loop-k-preserved c).In-loop-k in
     let l = c.loop-k in
     let p = played (goal.at.loop-k-preserved c).After-word_at-expected in
-    let k = kept (goal.at.loop-k-preserved c).After-word_at-expected in (
-      omega arith,
-      k.table-long,
-      k.list-long,
-      l.invariant.3 ∙ goes_on (words b) l.k l.table l.list (sure b) (inside b) _ _ _ p.stepped (c.if-status-expected.false ∙ p.expected),
-    )
-
-pub shape_of-table : goal.shape_of-table
-shape_of-table c = c.loop-k.invariant.1
-
-pub shape_of-list : goal.shape_of-list
-shape_of-list c = c.loop-k.invariant.2
+    l.invariant ∙ goes_on (words b) l.k l.table l.list (sure b) (inside b) _ _ _ p.stepped (c.if-status-expected.false ∙ p.expected)
 
 pub returns : goal.returns
 returns c = let b = c.args.bytes.now in
-    left-none (words_of b) c.loop-k.k c.loop-k.table c.loop-k.list (held b c.requires.0) (omega (arith, c.requires.1)) ∙ sym c.loop-k.invariant.3
+    left-none (words_of b) c.loop-k.k c.loop-k.table c.loop-k.list (held b c.requires.0) (omega (arith, c.requires.1)) ∙ sym c.loop-k.invariant

@@ -1,7 +1,5 @@
 -- `playback::play_all` meets its contract: the calls before place k had the statuses expected, so that what is left to play from there on is all.
 -- Assumes nothing.
-use Prim.Native.Nat.{◌-◌, ◌≤◌}
-use lib.ListN.{length}
 use mathlib.Core.Path.{◌≡◌}
 use Rattle.playback.proofs.Places.{left}
 use Rattle.playback.specs.Replay.{played_from}
@@ -10,8 +8,4 @@ use Rattle.playback.proofs.play_all.Given as goal
 
 abbrev pub invariant-loop-k : goal.invariant-loop-k
 invariant-loop-k l =
-    (l.k ≤ l.calls) × (length l.table ≡ length l.initial.table) × (length l.list ≡ length l.initial.list)
-    × (played_from 0 l.initial.table l.initial.list (calls_in (words_of l.bytes)) (statuses_in (words_of l.bytes)) ≡ left (words_of l.bytes) l.k l.table l.list)
-
-abbrev pub decreases-loop-k : goal.decreases-loop-k
-decreases-loop-k l = l.calls - l.k
+    played_from 0 l.initial.table l.initial.list (calls_in (words_of l.bytes)) (statuses_in (words_of l.bytes)) ≡ left (words_of l.bytes) l.k l.table l.list

@@ -5,8 +5,8 @@ use Rattle.recording.specs.Format.{given}
 use Rattle.playback.proofs.replay.Goals as goal
 
 pub run-requires : goal.run-requires
-run-requires c = sym (ap given c.in-Taken.is) ∙ c.read.ensures
+run-requires c = sym (ap given c.in-Ok.is) ∙ c.read.ensures
 
-pub returns-in-Refused : goal.returns-in-Refused
-returns-in-Refused c = let a = c.args in
-    not_taken a.bytes.now a.table.now a.list.now _ (sym (ap given c.in-Refused.is) ∙ c.read.ensures)
+pub returns-in-Err : goal.returns-in-Err
+returns-in-Err c = let a = c.args in
+    not_taken a.bytes.now a.table.now a.list.now _ (sym (ap given c.in-Err.is) ∙ c.read.ensures)

@@ -1,47 +1,48 @@
 -- `recorded_timer::play_timer` meets its contract: each arm makes the call of its number. Assumes nothing.
-use borrow.Author.Rules.{rules}
-use Rattle.recorded_timer.proofs.Steps.{plays, start_left}
+use mathlib.Core.Path.{◌∙◌}
 use lib.ListN.{get_or}
+use Rattle.model.specs.Calls.{fire_when, server_fire_when}
+use Rattle.model.specs.Outcome.{outcome}
+use Rattle.recorded_timer.proofs.Steps.{plays, is-number}
 use Rattle.recorded_timer.proofs.play_timer.Goals as goal
 
-pub create-requires : goal.create-requires
-create-requires c = tt
+pub returns-in-Create : goal.returns-in-Create
+returns-in-Create c list = plays c.args.table.now list c.args.words 2 (is-number c.of_word.ensures c.in-Create.is) c.create.ensures
 
-pub ident-requires : goal.ident-requires
-ident-requires c = tt
+pub returns-in-Ident : goal.returns-in-Ident
+returns-in-Ident c list = plays c.args.table.now list c.args.words 3 (is-number c.of_word.ensures c.in-Ident.is) c.ident.ensures
 
-pub cancel-requires : goal.cancel-requires
-cancel-requires c = tt
+pub returns-in-Cancel : goal.returns-in-Cancel
+returns-in-Cancel c list = plays c.args.table.now list c.args.words 4 (is-number c.of_word.ensures c.in-Cancel.is) c.cancel.ensures
 
-pub delete-requires : goal.delete-requires
-delete-requires c = tt
+pub returns-in-Delete : goal.returns-in-Delete
+returns-in-Delete c list = plays c.args.table.now list c.args.words 5 (is-number c.of_word.ensures c.in-Delete.is) c.delete.ensures
 
-pub reset-requires : goal.reset-requires
-reset-requires c = tt
+pub returns-in-Reset : goal.returns-in-Reset
+returns-in-Reset c list = plays c.args.table.now list c.args.words 8 (is-number c.of_word.ensures c.in-Reset.is) c.reset.ensures
 
-pub ticks_left-requires : goal.ticks_left-requires
-ticks_left-requires c = tt
+pub returns-in-TicksLeft : goal.returns-in-TicksLeft
+returns-in-TicksLeft c list = plays c.args.table.now list c.args.words 9 (is-number c.of_word.ensures c.in-TicksLeft.is) c.ticks_left.ensures
 
-pub start_for_date-requires : goal.start_for_date-requires
-start_for_date-requires c = c.in-7.is
+pub returns-in-FireAfter : goal.returns-in-FireAfter
+returns-in-FireAfter c list = plays c.args.table.now list c.args.words 6 (is-number c.of_word.ensures c.in-FireAfter.is) c.fire_after.ensures
 
-pub start_for_ticks-requires : goal.start_for_ticks-requires
-start_for_ticks-requires c = start_left (get_or c.args.words 0 0) c.requires (search rules)
+pub returns-in-FireEvery : goal.returns-in-FireEvery
+returns-in-FireEvery c list = plays c.args.table.now list c.args.words 13 (is-number c.of_word.ensures c.in-FireEvery.is) c.fire_every.ensures
 
-pub returns-in-2 : goal.returns-in-2
-returns-in-2 c list = plays c.args.table.now list c.args.words 2 c.in-2.is c.create.ensures
+pub returns-in-ServerFireAfter : goal.returns-in-ServerFireAfter
+returns-in-ServerFireAfter c list = plays c.args.table.now list c.args.words 16 (is-number c.of_word.ensures c.in-ServerFireAfter.is) c.server_fire_after.ensures
 
-pub returns-in-3 : goal.returns-in-3
-returns-in-3 c list = plays c.args.table.now list c.args.words 3 c.in-3.is c.ident.ensures
+pub returns-in-FireWhen : goal.returns-in-FireWhen
+returns-in-FireWhen c list = let t = c.args.table.now in
+    let ws = c.args.words in
+    let when = c.wall_time_at-when.ensures in
+    let made = c.fire_when.ensures ∙ (λ j. outcome t (fire_when 1 (get_or ws 1 0) (when j) (get_or ws 9 0) (get_or ws 10 0))) in
+    plays t list ws 7 (is-number c.of_word.ensures c.in-FireWhen.is) made
 
-pub returns-in-4 : goal.returns-in-4
-returns-in-4 c list = plays c.args.table.now list c.args.words 4 c.in-4.is c.cancel.ensures
-
-pub returns-in-5 : goal.returns-in-5
-returns-in-5 c list = plays c.args.table.now list c.args.words 5 c.in-5.is c.delete.ensures
-
-pub returns-in-8 : goal.returns-in-8
-returns-in-8 c list = plays c.args.table.now list c.args.words 8 c.in-8.is c.reset.ensures
-
-pub returns-in-9 : goal.returns-in-9
-returns-in-9 c list = plays c.args.table.now list c.args.words 9 c.in-9.is c.ticks_left.ensures
+pub returns-in-ServerFireWhen : goal.returns-in-ServerFireWhen
+returns-in-ServerFireWhen c list = let t = c.args.table.now in
+    let ws = c.args.words in
+    let date = c.wall_time_at-date.ensures in
+    let made = c.server_fire_when.ensures ∙ (λ j. outcome t (server_fire_when 1 (get_or ws 1 0) (date j) (get_or ws 9 0) (get_or ws 10 0))) in
+    plays t list ws 17 (is-number c.of_word.ensures c.in-ServerFireWhen.is) made

@@ -7,18 +7,15 @@ use Rattle.recording.proofs.zeros_end.Goals as goal
 
 pub returns-then-not-is_right : goal.returns-then-not-is_right
 returns-then-not-is_right c = let a = c.args in
-    let l = c.loop-p in
-    let z = zeros-off (words_of a.bytes.now) l.p a.to (omega arith) (sym c.if-not-is_right.ensures) in
+    let z = zeros-off (words_of a.bytes.now) c.loop-p.p 11 (omega arith) (sym c.if-not-is_right.ensures) in
     omega arith
 
 pub loop-p-preserved : goal.loop-p-preserved
 loop-p-preserved c = let a = c.args in
-    let l = c.loop-p in
-    let z = zeros-on (words_of a.bytes.now) l.p a.to (omega arith) (sym c.if-not-is_right.ensures) in
-    (omega arith, omega arith, omega arith)
+    let z = zeros-on (words_of a.bytes.now) c.loop-p.p 11 (omega arith) (sym c.if-not-is_right.ensures) in
+    omega arith
 
 pub returns : goal.returns
 returns c = let a = c.args in
-    let l = c.loop-p in
-    let z = zeros-none (words_of a.bytes.now) l.p a.to (omega arith) in
+    let z = zeros-none (words_of a.bytes.now) c.loop-p.p 11 (omega arith) in
     omega arith

@@ -1,13 +1,12 @@
--- `recording_writer::calls_fit` meets its contract: the calls before call k are right, so that the words right from the first on are theirs and those right from
--- call k on. Assumes nothing.
-use Prim.Native.Nat.{◌+◌, ◌-◌, ◌*◌, ◌≤◌}
-use mathlib.Core.Path.{◌≡◌}
-use Rattle.recording.proofs.Reach.{rest}
+-- `recording_writer::calls_fit` meets its contract: the calls before those that are left are right. Assumes nothing.
+use Rattle.std.proofs.Common.{◌≡◌, ◌+◌, ◌-◌, ◌*◌, ◌/◌, ◌≤◌, length}
+use Rattle.std.specs.Slice.Iter.{chunks_exact_rest, chunks_exact_size}
 use Rattle.recording.specs.Format.{calls_rules, right}
 use Rattle.recording_writer.proofs.calls_fit.Given as goal
 
-abbrev pub invariant-loop-k : goal.invariant-loop-k
-invariant-loop-k l = (l.k ≤ l.count) × (right (calls_rules l.count l.calls) l.calls ≡ 11 * l.k + rest 0 l.calls l.count l.k)
-
-abbrev pub decreases-loop-k : goal.decreases-loop-k
-decreases-loop-k l = l.count - l.k
+abbrev pub invariant-loop-call : goal.invariant-loop-call
+invariant-loop-call l =
+    let rest = chunks_exact_rest l.call-iterator in
+    (goal.iterator-loop-call).can_next l.call-iterator × (goal.iterator-loop-call).is_finite l.call-iterator
+    × (chunks_exact_size l.call-iterator ≡ 11) × (length rest / 11 ≤ length l.calls / 11)
+    × (right (calls_rules (length l.calls / 11) l.calls) l.calls ≡ 11 * (length l.calls / 11 - length rest / 11) + right (calls_rules (length rest / 11) rest) rest)

@@ -14,17 +14,15 @@ use Rattle.recording_writer.proofs.put_words.Goals.{At-loop-i}
 long : (c : At-loop-i) → length c.loop-i.buffer ≡ length c.args.buffer.now
 long c =
     let a = c.args in
-    ap length c.loop-i.invariant.1 ∙ length-sets a.buffer.now a.at (bytes_of (take c.loop-i.i a.ws.now))
+    ap length c.loop-i.invariant ∙ length-sets a.buffer.now a.at (bytes_of (take c.loop-i.i a.ws.now))
 
 pub loop-i-init : goal.loop-i-init
-loop-i-init c = (omega arith, stored-none _ _)
+loop-i-init c = stored-none _ _
 
 pub loop-i-preserved : goal.loop-i-preserved
 loop-i-preserved c = let a = c.args in
     let i = c.loop-i.i in
     let ws = a.ws.now in
-    let n = length-take-le i ws (omega arith) in (
-      omega arith,
-      stored_on a.buffer.now _ _ a.at (a.at + 4 * i) (take i ws) (get_or ws i 0 ∷ []) c.loop-i.invariant.1 c.put_word.ensures (omega arith)
-          ∙ ap (λ (xs : List ℕ). sets a.buffer.now a.at (bytes_of xs)) (sym (take-suc ws i 0 (omega arith)) ∙ ap (λ (m : ℕ). take m ws) (sym (add-one i))),
-    )
+    let n = length-take-le i ws (omega arith) in
+    stored_on a.buffer.now _ _ a.at (a.at + 4 * i) (take i ws) (get_or ws i 0 ∷ []) c.loop-i.invariant c.put_word.ensures (omega arith)
+    ∙ ap (λ (xs : List ℕ). sets a.buffer.now a.at (bytes_of xs)) (sym (take-suc ws i 0 (omega arith)) ∙ ap (λ (m : ℕ). take m ws) (sym (add-one i)))

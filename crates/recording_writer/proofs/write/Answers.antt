@@ -8,21 +8,6 @@ returns-then-not-is_recording c =
     let a = c.args in
     refuses a.slots a.rate a.calls.now a.statuses.now a.buffer.now (sym c.if-not-is_recording.ensures)
 
-pub overflow_mul-again : goal.overflow_mul-again
-overflow_mul-again c = omega (arith, fitting-facts c.args.slots c.args.rate c.args.calls.now c.args.statuses.now (sym c.if-not-is_recording.ensures))
-
-pub overflow_add-again : goal.overflow_add-again
-overflow_add-again c = omega (arith, fitting-facts c.args.slots c.args.rate c.args.calls.now c.args.statuses.now (sym c.if-not-is_recording.ensures))
-
-pub overflow_add-words : goal.overflow_add-words
-overflow_add-words c = omega (arith, fitting-facts c.args.slots c.args.rate c.args.calls.now c.args.statuses.now (sym c.if-not-is_recording.ensures))
-
-pub overflow_add-words-2 : goal.overflow_add-words-2
-overflow_add-words-2 c = omega (arith, fitting-facts c.args.slots c.args.rate c.args.calls.now c.args.statuses.now (sym c.if-not-is_recording.ensures))
-
-pub overflow_mul-size : goal.overflow_mul-size
-overflow_mul-size c = omega (arith, fitting-facts c.args.slots c.args.rate c.args.calls.now c.args.statuses.now (sym c.if-not-is_recording.ensures))
-
 pub returns-then-buffer-size : goal.returns-then-buffer-size
 returns-then-buffer-size c =
     let a = c.args in
@@ -30,24 +15,12 @@ returns-then-buffer-size c =
     let l = file-length a.slots a.rate a.calls.now a.statuses.now (fitting-facts a.slots a.rate a.calls.now a.statuses.now fit).eleven in
     too_short a.slots a.rate a.calls.now a.statuses.now a.buffer.now fit (omega arith)
 
-pub overflow_cast-count : goal.overflow_cast-count
-overflow_cast-count c = omega (arith, fitting-facts c.args.slots c.args.rate c.args.calls.now c.args.statuses.now (sym c.if-not-is_recording.ensures))
-
-pub put_words-requires : goal.put_words-requires
-put_words-requires c = omega (arith, fitting-facts c.args.slots c.args.rate c.args.calls.now c.args.statuses.now (sym c.if-not-is_recording.ensures))
-
-pub overflow_cast-count-2 : goal.overflow_cast-count-2
-overflow_cast-count-2 c = omega (arith, fitting-facts c.args.slots c.args.rate c.args.calls.now c.args.statuses.now (sym c.if-not-is_recording.ensures))
-
-pub overflow_cast-length : goal.overflow_cast-length
-overflow_cast-length c = omega (arith, fitting-facts c.args.slots c.args.rate c.args.calls.now c.args.statuses.now (sym c.if-not-is_recording.ensures))
-
 pub returns : goal.returns
 returns c =
     let a = c.args in
     let fit = sym c.if-not-is_recording.ensures in
     let eleven = (fitting-facts a.slots a.rate a.calls.now a.statuses.now fit).eleven in
     let l = file-length a.slots a.rate a.calls.now a.statuses.now eleven in
-    let fills = stored a.slots a.rate a.calls.now a.statuses.now a.buffer.now _ _ _ _ eleven (omega arith) c.put_numbers.ensures c.put_words.ensures
-    c.put_word.ensures c.put_words-2.ensures in
+    let fills = stored a.slots a.rate a.calls.now a.statuses.now a.buffer.now _ _ _ _ eleven (omega arith) c.put_words.ensures c.put_words-2.ensures
+    c.put_words-3.ensures c.put_words-4.ensures in
     writes a.slots a.rate a.calls.now a.statuses.now a.buffer.now _ _ fit (omega arith) (omega arith) fills

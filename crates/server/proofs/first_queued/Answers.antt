@@ -6,13 +6,13 @@ use Rattle.server.proofs.QueueWalk.{walk_start, walk_end, walk_inside, walk-on, 
 use Rattle.server.proofs.first_queued.Goals as goal
 
 pub bounds-t-7 : goal.bounds-t-7
-bounds-t-7 c = omega (arith, sound-header _ c.requires)
+bounds-t-7 c = omega (arith, sound-header _ c.args.t.is_sound)
 
 pub bounds-t-9 : goal.bounds-t-9
-bounds-t-9 c = omega (arith, sound-header _ c.requires)
+bounds-t-9 c = omega (arith, sound-header _ c.args.t.is_sound)
 
 pub loop-i-init : goal.loop-i-init
-loop-i-init c = walk_start _ (sound-holds _ c.requires) refl
+loop-i-init c = walk_start _ (sound-holds _ c.args.t.is_sound) refl
 
 pub get-i-requires : goal.get-i-requires
 get-i-requires c = (omega arith, walk_inside c.loop-i.invariant c.loop-i-test.true)

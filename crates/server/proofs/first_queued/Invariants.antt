@@ -5,7 +5,7 @@ use Rattle.server.proofs.QueueWalk.{Passed, from}
 use Rattle.server.proofs.first_queued.Given as goal
 
 abbrev pub invariant-loop-i : goal.invariant-loop-i
-invariant-loop-i l = Passed l.t l.party l.i
+invariant-loop-i l = Passed l.t.words.now l.party l.i
 
 abbrev pub decreases-loop-i : goal.decreases-loop-i
-decreases-loop-i l = from l.i (read l.t).queue
+decreases-loop-i l = from l.i (read l.t.words.now).queue

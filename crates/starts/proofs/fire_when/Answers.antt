@@ -1,11 +1,11 @@
 -- `starts::fire_when` meets its contract: behind its opening it is the start of its mode. Assumes nothing.
 use mathlib.Core.Path.{refl, ◌∙◌}
-use Rattle.answers.proofs.Openings.{refuses-as}
+use Rattle.answers.proofs.Openings.{hands-on}
 use Rattle.starts.proofs.Opened.{when-is}
 use Rattle.starts.proofs.fire_when.Goals as goal
 
-pub returns-in_default : goal.returns-in_default
-returns-in_default c = refuses-as _ _ c.open_party-opened.ensures c.in_default.is _ refl refl
+pub returns-in_err-open_party : goal.returns-in_err-open_party
+returns-in_err-open_party c = hands-on _ _ _ c.from_residual.ensures.1 c.in_err-open_party.ensures _ refl refl
 
 pub returns : goal.returns
-returns c = c.start_for_date.ensures ∙ when-is (c.in-Done.ensures.holds _ refl) _ _ _ _
+returns c = c.start_for_date.ensures ∙ when-is (c.in_ok-open_party.ensures.holds _ refl) _ _ _ _

@@ -1,2 +1,0 @@
--- The proofs: which numbers no arm names.
-pub mod Numbers
