@@ -44,8 +44,13 @@ def edits(crate):
 
 
 def public_functions(crate):
+    """Those that are `pub`, and those of a trait that a type of a library implements, as `from`: these are called by whoever has the type."""
     for source in sorted((ROOT / "crates" / crate / "src").rglob("*.rt")):
-        yield from re.findall(r'^ *pub (?:extern "C" )?fn (\w+)', source.read_text(), re.M)
+        text = source.read_text()
+        yield from re.findall(r'^ *pub (?:extern "C" )?fn (\w+)', text, re.M)
+        if source.name != "main.rt":
+            for body in re.findall(r"^impl(?:<[^>]*>)? [^{\n]+ for [^{\n]+ \{\n(.*?)\n\}\n", text, re.M | re.S):
+                yield from re.findall(r"^    fn (\w+)", body, re.M)
 
 
 def report(crate, edit):
