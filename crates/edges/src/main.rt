@@ -12,8 +12,8 @@ use model::{SUCCESSFUL, Status};
 use recording::CallNumber;
 use server::*;
 use starts::*;
-use std::io;
 use std::io::Read;
+use std::{fmt, io};
 use table::{PARTY_1, SLOT_COUNT, TICKS_PER_SECOND};
 use timer::*;
 
@@ -76,17 +76,33 @@ fn action_of(number: u32) -> Action {
     }
 }
 
-// Prints status and answer, whose numbers are zeros where it is refused.
+// Numbers with a space before each.
+#[derive(Clone, Copy, Debug, PartialEq, Eq)]
+struct Numbers<'n>(&'n [i64]);
+
+impl<'n> fmt::Display for Numbers<'n> {
+    fn fmt<W: fmt::Write>(&self, f: &mut fmt::Formatter<W>) -> fmt::Result {
+        for number in self.0 {
+            write!(f, " {number}")?;
+        }
+        Ok(())
+    }
+}
+
+// Prints status and answer, whose numbers are zeros where it is refused. (All of it in one write.)
 fn show<const N: usize>(rt: &impl Print, answer: Result<[i64; N], Status>) -> io::Result<()> {
     let (status, numbers) = match answer {
         Ok(numbers) => (SUCCESSFUL, numbers),
         Err(refusal) => (u32::from(refusal), [0; N]),
     };
-    print!(rt; " {status}")?;
-    for number in numbers {
-        print!(rt; " {number}")?;
-    }
-    Ok(())
+    print!(rt; " {status}{}", Numbers(&numbers))
+}
+
+// The same of two numbers, the second by a write of its own.
+fn show_two(rt: &impl Print, answer: Result<[i64; 2], Status>) -> io::Result<()> {
+    show(rt, answer.map(|numbers| [numbers[0]]))?;
+    let second = answer.map_or(0, |numbers| numbers[1]);
+    print!(rt; " {second}")
 }
 
 // An answer of one number. (The next three differ from it in the fields that they read.)
@@ -201,10 +217,10 @@ fn play(
         Action::Nothing => Ok(()),
         Action::LayOut => show(rt, one(lay_out(table, a, b, c))),
         Action::Call(CallNumber::SetClock) => {
-            show(rt, setting(set_clock(table, wall_time(a, b, c), list)))
+            show_two(rt, setting(set_clock(table, wall_time(a, b, c), list)))
         }
         Action::Call(CallNumber::GetClock) => show(rt, reading(get_clock(table))),
-        Action::Call(CallNumber::Leap) => show(rt, progress(leap(table, a, list))),
+        Action::Call(CallNumber::Leap) => show_two(rt, progress(leap(table, a, list))),
         Action::Call(number) => show(rt, one(call(number, step, party, table, list))),
         Action::PrintList => print_list(rt, list, a),
         Action::ChangeWord => {
@@ -217,12 +233,12 @@ fn play(
         Action::ShortCall(CallNumber::NextDue) => show(rt, one(next_due::next_due(&cut))),
         Action::ShortCall(CallNumber::Tick) => show(rt, one(tick(table, &mut short))),
         Action::ShortCall(CallNumber::SetClock) => {
-            show(
+            show_two(
                 rt,
                 setting(set_clock(table, wall_time(a, b, c), &mut short)),
             )
         }
-        Action::ShortCall(CallNumber::Leap) => show(rt, progress(leap(table, a, &mut short))),
+        Action::ShortCall(CallNumber::Leap) => show_two(rt, progress(leap(table, a, &mut short))),
         Action::ShortCall(_) | Action::Unknown => show(rt, one(Ok(MOST))),
     }
 }
@@ -271,20 +287,17 @@ fn caller_after(step: Step, party: u32) -> u32 {
     }
 }
 
-// A line ends here.
-fn is_newline(byte: &u8) -> bool {
-    *byte == b'\n'
+// No line begins before the second of two bytes.
+fn goes_on(_before: &u8, byte: &u8) -> bool {
+    *byte != b'\n'
 }
 
-// Runs the lines of a text, each with the newline before it.
+// Runs the lines of a text, each with the newline before it, which is written with its label.
 fn run(rt: &impl Print, text: &[u8]) -> io::Result<()> {
     let mut table = [0u32; TABLE];
     let mut list = [0u32; LIST];
     let mut party = PARTY_1;
-    for (n, line) in text.split(is_newline).enumerate() {
-        if n > 0 {
-            println!(rt; "")?;
-        }
+    for line in text.chunk_by(goes_on) {
         let step = step_of(rt, line)?;
         party = caller_after(step, party);
         play(rt, step, party, &mut table, &mut list)?;
