@@ -76,10 +76,10 @@ extern "C" {
 #endif
 
 /* The version of this interface, by semantic versioning: CHANGELOG.md says what each brought. */
-#define HC_VERSION "4.2.2"
+#define HC_VERSION "4.2.3"
 #define HC_VERSION_MAJOR 4u
 #define HC_VERSION_MINOR 2u
-#define HC_VERSION_PATCH 2u
+#define HC_VERSION_PATCH 3u
 
 /* Statuses. Those below 100 are RTEMS's numbers under RTEMS's names. */
 #define HC_SUCCESSFUL 0u       /* accepted */

@@ -14,7 +14,7 @@ use Rattle.macro_check.specs.Parts.{from, Checked, AtEnd}
 use Rattle.std.specs.Prelude.{Option, Some, None, is_some}
 use Rattle.macro_check.proofs.BlockLaws.{top, whole_is}
 
-abbrev nothing : Option (List ℕ)
+abbrev pub nothing : Option (List ℕ)
 nothing = None
 
 pub scan-refused : (ws : List ℕ) (place : ℕ) → passed ws ≡ false → nothing ≡ scanned_at ws place

@@ -1,10 +1,22 @@
 -- `macro_check::check_block` and `macro_check::check_step` meet their contracts: a block hands each step on, and a repeat its block. Assumes nothing.
-use Rattle.std.proofs.Common.{◌≡◌, None, sym, ap, ◌∙◌, arith, rules}
+use Rattle.std.proofs.Common.{ℕ, ◌<◌, ◌≡◌, None, false, sym, ap, ◌∙◌, subst, arith, rules}
 use Rattle.macro_steps.specs.declared.StepKind.TheVariants.{NoStep, Check, Repeat}
 use Rattle.macro_steps.specs.StepKinds.{number_of}
 use Rattle.macro_steps.proofs.KindLaws.{same_kind}
 use Rattle.macro_check.proofs.StepChecks.{with-check, without-check, plain, too-deep, block-open, block-is, never-ended, block-ended}
+use Rattle.macro_check.specs.Passed.{asks_check}
 use Rattle.macro_check.proofs.+check_block_check_step.Goals as goal
+
+pub check_block-loop-next-preserved-in-Wait : goal.check_block-loop-next-preserved-in-Wait
+check_block-loop-next-preserved-in-Wait t c =
+    let k = number_of c.kind_at-kind.result in
+    let i = c.loop-next.invariant in
+    let a : asks_check k ≡ false = search rules in
+    let n0 : k ≡ 0 → ⊥ = search rules in
+    let n5 : k ≡ 5 → ⊥ = search rules in
+    let n6 : k ≡ 6 → ⊥ = search rules in
+    let m = plain (subst (λ (n : ℕ). c.loop-next.next < n) c.step_count.ensures c.loop-next-test.true) c.kind_at-kind.ensures i.1.0 a n0 n5 n6 in
+    (omega (arith, i, m), (m.1.0, i.1.1 ∙ m.1.1))
 
 pub check_step-returns-in_default : goal.check_step-returns-in_default
 check_step-returns-in_default t c =
